@@ -15,12 +15,12 @@ use Rattle.cabinet_core.specs.declared.decide.CabinetChange.TheVariants.{PutOrde
 use Rattle.cabinet_core.specs.declared.decide.Recorded.{Recorded}
 use Rattle.cabinet_core.specs.declared.decide.Recorded.TheVariants.{Added, Same}
 
--- what becomes of a command: it adds, or what it asks for is there already, or it is refused
+-- what becomes of a command: it adds, or what it asks for is already recorded, or it is refused
 pub data Line : Type 0 where
   added same : Line
   refused : CabinetRefusal → Line
 
--- how many of a part are on hand: none where the part has no row yet
+-- how many of a part are on hand: 0 if the part has no row yet
 abbrev pub on_hand : Option ℕ → ℕ
 on_hand None = 0
 on_hand (Some stored) = stored
@@ -33,21 +33,21 @@ record_of opening = record { number = opening.number; opened = opening.day; cler
 abbrev pub with_closing : Order → Closing → Order
 with_closing order closing = record order { closing = Some closing }
 
--- two inspections are equal in all that they say
+-- two inspections have the same number, day, clerk and text
 abbrev pub is_same_inspection : Inspection → Inspection → Bool
 is_same_inspection there asked =
     there.number == asked.number && (there.day == asked.day && (bytes_eq there.clerk asked.clerk && bytes_eq there.text asked.text))
 
--- two closings are equal in all that they say
+-- two closings have the same day and clerk
 abbrev pub is_same_closing : Closing → Closing → Bool
 is_same_closing there asked = there.day == asked.day && bytes_eq there.closer asked.closer
 
--- two used parts are equal in all that they say
+-- two used parts have the same order, line, part and count
 abbrev pub is_same_line : UsedLine → UsedLine → Bool
 is_same_line there asked =
     there.order == asked.order && (there.line == asked.line && (bytes_eq there.part asked.part && there.count == asked.count))
 
--- two deliveries are equal in all that they say
+-- two deliveries have the same part, number, day and count
 abbrev pub is_same_delivery : Delivery → Delivery → Bool
 is_same_delivery there asked =
     bytes_eq there.part asked.part && (there.number == asked.number && (there.day == asked.day && there.count == asked.count))
@@ -57,17 +57,18 @@ abbrev pub is_opened_so : Order → Opening → Bool
 is_opened_so there asked =
     there.number == asked.number && (there.opened == asked.day && (bytes_eq there.clerk asked.clerk && bytes_eq there.text asked.text))
 
--- the line of a command that records an inspection, by the inspection that is there under its number
+-- the line of a command that records an inspection, by the recorded inspection with its number, if there is one
 abbrev pub inspect_line : Option Inspection → Inspection → Line
 inspect_line None asked = added
 inspect_line (Some there) asked = if is_same_inspection there asked then same else refused InspectionDiffers
 
--- the line of a command that opens an order, by the order that is there under its number
+-- the line of a command that opens an order, by the recorded order with its number, if there is one
 abbrev pub open_line : Option Order → Opening → Line
 open_line None asked = added
 open_line (Some there) asked = if is_opened_so there asked then same else refused OrderDiffers
 
--- the line of a command that uses a part, by the used part that is there under its order and line, the order, and how many of the part are on hand
+-- the line of a command that uses a part, by the recorded line with its order and line number, the order, and how
+-- many of the part are on hand; each may be missing
 abbrev pub use_line : Option UsedLine → Option Order → Option ℕ → UsedLine → Line
 use_line (Some there) order hand asked = if is_same_line there asked then same else refused LineDiffers
 use_line None None hand asked = refused UnknownOrder
@@ -75,7 +76,7 @@ use_line None (Some order) hand asked =
     if is_some order.closing then refused OrderClosed
     else (if nat_lt (on_hand hand) asked.count then refused NoStock else added)
 
--- the line of a command that closes an order which is there, by how it was closed before, if it was
+-- the line of a command that closes an existing order, by the order's closing, if it has one
 abbrev pub close_order_line : Order → Option Closing → Closing → Line
 close_order_line order (Some there) asked = if is_same_closing there asked then same else refused CloseDiffers
 close_order_line order None asked = if nat_lt asked.day order.opened then refused DayBeforeOpening else added
@@ -85,25 +86,27 @@ abbrev pub close_line : Option Order → Closing → Line
 close_line None asked = refused UnknownOrder
 close_line (Some order) asked = close_order_line order order.closing asked
 
--- the line of a command that receives a delivery, by the delivery that is there under its part and number, and how many of the part are on hand
+-- the line of a command that receives a delivery, by the recorded delivery with its part and number, and how many of
+-- the part are on hand; each may be missing
 abbrev pub receive_line : Option Delivery → Option ℕ → Delivery → Line
 receive_line (Some there) hand asked = if is_same_delivery there asked then same else refused DeliveryDiffers
 receive_line None hand asked = if nat_lt MOST_ON_HAND (on_hand hand + asked.count) then refused StockFull else added
 
--- the rows of a used part: its line goes in, and its pieces leave the stock
+-- the rows of a used part: its line is put, and its pieces leave the stock
 abbrev pub use_changes : Option ℕ → UsedLine → List CabinetChange
 use_changes hand asked = PutLine asked ∷ PutPart asked.part (on_hand hand - asked.count) ∷ []
 
--- the rows of a closing: the order that is there is put back closed
+-- the rows of a closing: the order is put back closed
 abbrev pub close_changes : Option Order → Closing → List CabinetChange
 close_changes None asked = []
 close_changes (Some order) asked = PutOrder (with_closing order asked) ∷ []
 
--- the rows of a delivery: its pieces come into stock, and it goes in, which refers to the part
+-- the rows of a delivery: its pieces come into stock, and then it is put, since it refers to the part
 abbrev pub receive_changes : Option ℕ → Delivery → List CabinetChange
 receive_changes hand asked = PutPart asked.part (on_hand hand + asked.count) ∷ PutDelivery asked ∷ []
 
--- a decision says which line it is, and where something is added, which rows are put; want of memory is reported only where something is to be added
+-- a decision says which line it is and, if the command adds, which rows are put; it reports want of memory only if
+-- the command adds
 abbrev pub Records : Result Recorded CabinetRefusal → Line → List CabinetChange → Type 0
 Records (Ok (Added changes)) line list = (line ≡ added) × (changes.items ≡ list)
 Records (Ok Same) line list = line ≡ same

@@ -1,4 +1,4 @@
--- What the changes of a decision make of the register, and of what is on hand.
+-- What the changes of a decision do to the register, and to what is on hand.
 use Rattle.std.specs.Prelude.{◌≡◌, ℕ, if◌then◌else◌, List, [], ◌∷◌, Option, Some, Result, Ok, Err}
 use Rattle.std.specs.FinMap.{insert}
 use Rattle.std.specs.Str.{bytes_eq}
@@ -15,7 +15,8 @@ use Rattle.cabinet_core.specs.declared.decide.Recorded.TheVariants.{Added, Same}
 use Rattle.cabinet_core.specs.declared.refusal.CabinetRefusal.{CabinetRefusal}
 use Rattle.cabinet_core.specs.declared.refusal.CabinetRefusal.TheVariants.{NoMemory}
 
--- the register after a change on an intersection; a count on hand is a sum of records and no record, so it changes nothing
+-- the register after a change on an intersection; how many are on hand is a sum over records and no record itself, so
+-- it changes nothing
 abbrev pub with_change : ℕ → Register → CabinetChange → Register
 with_change id r (PutInspection inspection) = record r { inspections = insert r.inspections (id, inspection.number) inspection }
 with_change id r (PutOrder order) = record r { orders = insert r.orders (id, order.number) order }
@@ -28,23 +29,26 @@ abbrev pub with_changes : ℕ → Register → List CabinetChange → Register
 with_changes id r [] = r
 with_changes id r (change ∷ changes) = with_changes id (with_change id r change) changes
 
--- how many of a part are on hand after a change: what the change puts, if it puts a count of this part
+-- how many of a part are on hand after a change: the count of this part that it puts, else as before
 abbrev pub hand_told : List ℕ → Option ℕ → CabinetChange → Option ℕ
 hand_told code before (PutPart part hand) = if bytes_eq part code then Some hand else before
 hand_told code before _ = before
 
--- how many of a part are on hand after changes, in their order: what the last one puts that puts a count of this part
+-- how many of a part are on hand after changes, in their order: the last count of this part that they put, else as
+-- before
 abbrev pub hand_after : List ℕ → Option ℕ → List CabinetChange → Option ℕ
 hand_after code before [] = before
 hand_after code before (change ∷ changes) = hand_after code (hand_told code before change) changes
 
--- the changes bring the records of the next register, which is sound, and put how many of each part are then on hand
+-- the changes bring the records of the next register, which is sound, and put how many of each part it then has on
+-- hand
 pub record ChangesMake (id : ℕ) (r : Register) (changes : List CabinetChange) (next : Register) : Type 0 where
   pub records : with_changes id r changes ≡ next
   pub hands : (code : List ℕ) → hand_after code (hand_of r code) changes ≡ hand_of next code
   pub sound : IsSoundRegister next
 
--- In a register, a decision is the command's line there, and its changes, where it adds, make the register with the record.
+-- In a register, a decision is the command's line there and, if it adds, its changes make the register with the
+-- record.
 abbrev pub MakesIn : ℕ → Register → RecordCommand → Result Recorded CabinetRefusal → Type 0
 MakesIn id r command (Ok (Added changes)) =
     (line_at r command ≡ added) × ChangesMake id r changes.items (with_record r command)
@@ -52,8 +56,8 @@ MakesIn id r command (Ok Same) = line_at r command ≡ same
 MakesIn id r command (Err NoMemory) = line_at r command ≡ added
 MakesIn id r command (Err refusal) = line_at r command ≡ refused refusal
 
--- A decision makes the next register in every sound register in which what it was decided on stands under the
--- command's keys; the changes are put under the intersection.
+-- A decision makes the next register in every sound register that has under the command's keys what the decision was
+-- based on; the changes are put under the intersection.
 abbrev pub Makes : ℕ → (command : RecordCommand) → Standing command
     → Result Recorded CabinetRefusal → Type 0
 Makes id command there result =

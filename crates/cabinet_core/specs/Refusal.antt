@@ -3,7 +3,7 @@ use Rattle.std.specs.Prelude.{ℕ, List, codes}
 use Rattle.cabinet_core.specs.declared.refusal.CabinetRefusal.{CabinetRefusal}
 use Rattle.cabinet_core.specs.declared.refusal.CabinetRefusal.TheVariants.{InspectionDiffers, OrderDiffers, UnknownOrder, OrderClosed, DayBeforeOpening, NoStock, StockFull, DeliveryDiffers, LineDiffers, CloseDiffers, NoMemory}
 
--- a refusal's number and name; want of memory has those of Unavailable, which the office answers for it
+-- a refusal's number and name; NoMemory has those of Unavailable, the office's answer to it
 abbrev pub line_of : CabinetRefusal → ℕ × List ℕ
 line_of InspectionDiffers = (20, codes "InspectionDiffers")
 line_of OrderDiffers = (21, codes "OrderDiffers")

@@ -12,11 +12,11 @@ use Rattle.cabinet_core.specs.declared.record.Delivery.{Delivery}
 
 -- ---- keys
 
--- pairs stand in the order of what is first in them, and then of what is second
+-- pairs are ordered by their first part, then by their second
 abbrev pub pair_cmp : {A B : Type 0} → (A → A → Ordering) → (B → B → Ordering) → A × B → A × B → Ordering
 pair_cmp first second x y = ordering_then (first x.0 y.0) (second x.1 y.1)
 
--- an inspection or an order stands under its intersection and its number
+-- the key of an inspection or an order: its intersection and its number
 abbrev pub RecordKey : Type 0
 RecordKey = ℕ × ℕ
 
@@ -24,7 +24,7 @@ RecordKey = ℕ × ℕ
 abbrev pub record_cmp : RecordKey → RecordKey → Ordering
 record_cmp = pair_cmp nat_cmp nat_cmp
 
--- a used part stands under its intersection, the order and the line
+-- the key of a used part: its intersection, the order and the line
 abbrev pub LineKey : Type 0
 LineKey = ℕ × RecordKey
 
@@ -32,7 +32,7 @@ LineKey = ℕ × RecordKey
 abbrev pub line_cmp : LineKey → LineKey → Ordering
 line_cmp = pair_cmp nat_cmp record_cmp
 
--- a delivery stands under the code of the part and its number
+-- the key of a delivery: the code of the part and the delivery's number
 abbrev pub DeliveryKey : Type 0
 DeliveryKey = List ℕ × ℕ
 

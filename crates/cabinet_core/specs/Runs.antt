@@ -1,4 +1,4 @@
--- What commands that were accepted in turn make of an order and of the stock.
+-- What a run of accepted commands makes of an order and of the stock.
 use Rattle.std.specs.Prelude.{◌≡◌, ℕ, ◌+◌, Bool, true, false, ◌==◌, ◌&&◌, if◌then◌else◌, List, [], ◌∷◌}
 use Rattle.std.specs.Str.{bytes_eq}
 use Rattle.cabinet_core.specs.Cabinet.{added}
@@ -7,14 +7,14 @@ use Rattle.cabinet_core.specs.Step.{line_at, with_record}
 use Rattle.cabinet_core.specs.declared.command.RecordCommand.{RecordCommand}
 use Rattle.cabinet_core.specs.declared.command.RecordCommand.TheVariants.{Inspect, OpenOrder, UsePart, CloseOrder, Receive}
 
--- each command was accepted in its turn, from the first register to the last
+-- the commands, each accepted in its turn, lead from the first register to the last
 abbrev pub AreAccepted : Register → List RecordCommand → Register → Type 0
 AreAccepted r [] last = last ≡ r
 AreAccepted r (command ∷ commands) last = (line_at r command ≡ added) × AreAccepted (with_record r command) commands last
 
 -- ---- orders
 
--- whether the order is open after a command that was accepted
+-- whether an order is open after an accepted command, by whether it was open before
 abbrev pub open_with : ℕ → ℕ → Bool → RecordCommand → Bool
 open_with id n before (OpenOrder other opening) = if (other == id) && (opening.number == n) then true else before
 open_with id n before (CloseOrder other order closing) = if (other == id) && (order == n) then false else before
@@ -22,7 +22,7 @@ open_with id n before (Inspect other inspection) = before
 open_with id n before (UsePart other line) = before
 open_with id n before (Receive delivery) = before
 
--- whether the order is open after commands that were accepted in turn: by the last of them that opens or closes it
+-- whether an order is open after a run of accepted commands: by the last of them that opens or closes it
 abbrev pub open_by : ℕ → ℕ → Bool → List RecordCommand → Bool
 open_by id n before [] = before
 open_by id n before (command ∷ commands) = open_by id n (open_with id n before command) commands
@@ -45,7 +45,7 @@ pieces_spent code (OpenOrder id opening) = 0
 pieces_spent code (CloseOrder id order closing) = 0
 pieces_spent code (Receive delivery) = 0
 
--- how many pieces of a part commands bring as deliveries
+-- how many pieces of a part the deliveries of commands bring
 abbrev pub received_by : List ℕ → List RecordCommand → ℕ
 received_by code [] = 0
 received_by code (command ∷ commands) = pieces_received code command + received_by code commands

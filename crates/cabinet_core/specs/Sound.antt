@@ -10,26 +10,26 @@ use Rattle.cabinet_core.specs.declared.record.Order.{Order}
 use Rattle.cabinet_core.specs.declared.record.UsedLine.{UsedLine}
 use Rattle.cabinet_core.specs.declared.record.Delivery.{Delivery}
 
--- an inspection is of an intersection 1 to 9999, within its limits, and stands under its own number
+-- an inspection is of an intersection 1 to 9999, within its limits, and under its own number
 pub record IsInspectionAt (key : RecordKey) (inspection : Inspection) : Type 0 where
   pub of : IsInRange 1 9999 key.0
   pub number : inspection.number ≡ key.1
   pub within : IsInspectionWithin inspection
 
--- an order is within its limits, stands under its own number, and was not closed before it was opened
+-- an order is within its limits and under its own number, and was not closed before it was opened
 pub record IsOrderAt (key : RecordKey) (order : Order) : Type 0 where
   pub number : order.number ≡ key.1
   pub within : IsOrderWithin order
   pub closed_after : IfSome order.closing (λ closing. order.opened ≤ closing.day)
 
--- a used part is within its limits and stands under its own order and line, and the order is there
+-- a used part is within its limits and under its own order and line, and the order exists
 pub record IsLineAt (r : Register) (key : LineKey) (line : UsedLine) : Type 0 where
   pub of : line.order ≡ key.1.0
   pub number : line.line ≡ key.1.1
   pub within : IsUsedLineWithin line
   pub order : IsSome (get r.orders (key.0, key.1.0))
 
--- a delivery is within its limits and stands under its own part and number
+-- a delivery is within its limits and under its own part and number
 pub record IsDeliveryAt (key : DeliveryKey) (delivery : Delivery) : Type 0 where
   pub part : delivery.part ≡ key.0
   pub number : delivery.number ≡ key.1

@@ -1,4 +1,4 @@
--- The stock: what is on hand of a part is the sum of its deliveries less the sum of its used lines.
+-- The stock: the pieces of a part on hand are those of its deliveries less those of its used lines.
 use Rattle.std.specs.Prelude.{ℕ, ◌+◌, ◌-◌, ◌≤◌, Bool, if◌then◌else◌, List, map, Option, Some, None, sum_by}
 use Rattle.std.specs.List.{list_any}
 use Rattle.std.specs.Str.{bytes_eq}
@@ -34,15 +34,15 @@ was_delivered r code = list_any (λ e. bytes_eq e.1.part code) (entries r.delive
 abbrev pub pieces : Register → List ℕ → ℕ
 pieces r code = pieces_delivered r code - pieces_used r code
 
--- how many of a part are on hand; nothing of a part that was never delivered
+-- how many of a part are on hand; none if it was never delivered
 abbrev pub hand_of : Register → List ℕ → Option ℕ
 hand_of r code = if was_delivered r code then Some (pieces r code) else None
 
--- the parts that were delivered, with what is on hand of each
+-- the parts that were delivered, with how many of each are on hand
 abbrev pub stock_by_code : Register → FinMap (slice_cmp nat_cmp) ℕ
 stock_by_code r = from_entries (map {B = List ℕ × ℕ} (λ e. (e.1.part, pieces r e.1.part)) (entries r.deliveries))
 
--- the parts that were delivered, with what is on hand of each, in the order of their codes
+-- the parts that were delivered, with how many of each are on hand, in the order of their codes
 abbrev pub stock_of : Register → List (List ℕ × ℕ)
 stock_of r = entries (stock_by_code r)
 

@@ -1,4 +1,4 @@
--- Records, and commands that bring them, within their limits.
+-- Records, and the commands that bring them, within their limits.
 use Rattle.std.specs.Prelude.{IfSome}
 use Rattle.std.specs.Int.{IsInRange}
 use Rattle.signal_values.specs.Words.{AreWords}
@@ -20,14 +20,14 @@ pub record IsInspectionWithin (inspection : Inspection) : Type 0 where
   pub clerk : AreWords 40 inspection.clerk
   pub text : AreWords 500 inspection.text
 
--- what opens an order is within its limits: number 1 to 999,999, clerk to 40 bytes, text to 500
+-- an opening is within its limits: number 1 to 999,999, clerk to 40 bytes, text to 500
 pub record IsOpeningWithin (opening : Opening) : Type 0 where
   pub number : IsInRange 1 999_999 opening.number
   pub day : IsDay opening.day
   pub clerk : AreWords 40 opening.clerk
   pub text : AreWords 500 opening.text
 
--- what closes an order is within its limits: clerk to 40 bytes
+-- a closing is within its limits: clerk to 40 bytes
 pub record IsClosingWithin (closing : Closing) : Type 0 where
   pub day : IsDay closing.day
   pub closer : AreWords 40 closing.closer

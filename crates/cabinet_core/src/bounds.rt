@@ -16,7 +16,7 @@ pub fn inspection_is_within(inspection: &Inspection)
     let _text = inspection.text.as_str();
 }
 
-/// Shows that what opens an order is within its limits, which its types ensure.
+/// Shows that an opening is within its limits, which its types ensure.
 pub(crate) fn opening_is_within(opening: &Opening)
     ensures { IsOpeningWithin opening.now }
 {
@@ -25,7 +25,7 @@ pub(crate) fn opening_is_within(opening: &Opening)
     let _text = opening.text.as_str();
 }
 
-/// Shows that what closes an order is within its limits, which its types ensure.
+/// Shows that a closing is within its limits, which its types ensure.
 pub(crate) fn closing_is_within(closing: &Closing)
     ensures { IsClosingWithin closing.now }
 {
@@ -33,7 +33,7 @@ pub(crate) fn closing_is_within(closing: &Closing)
     let _closer = closing.closer.as_str();
 }
 
-/// Shows that what closed an order, if anything did, is within its limits.
+/// Shows that a closing, if there is one, is within its limits.
 fn any_closing_is_within(closing: &Option<Closing>)
     ensures { IfSome closing.now IsClosingWithin }
 {
@@ -52,7 +52,7 @@ pub fn order_is_within(order: &Order)
     any_closing_is_within(&order.closing);
 }
 
-/// Shows that a line of an order is within its limits, which its types ensure.
+/// Shows that a used part is within its limits, which its types ensure.
 pub fn used_line_is_within(used: &UsedLine)
     ensures { IsUsedLineWithin used.now }
 {

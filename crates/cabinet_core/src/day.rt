@@ -33,7 +33,7 @@ impl Model for Day {
 }
 
 impl Day {
-    /// The day that many days after 1970-01-01, if it is one up to 2199-12-31.
+    /// The day so many days after 1970-01-01, if it is at most 2199-12-31.
     pub fn new(n: u32) -> Option<Day>
         ensures { SomeIff result (IsDay n) n }
     {
@@ -51,7 +51,7 @@ impl Day {
         self.number
     }
 
-    /// The day as a `Date`, a type that has also days past 2199-12-31.
+    /// The day as a `Date`, a type that also has days past 2199-12-31.
     pub fn date(self) -> Date
         ensures value { result ≡ self }
         ensures bound { IsDay self }
@@ -61,7 +61,7 @@ impl Day {
         }
     }
 
-    /// The day of a date of the calendar, if it is one from 1970 to 2199.
+    /// The day of a date of the calendar, if it is from 1970 to 2199.
     fn from_date(date: CivilDate) -> Option<Day>
         ensures value { IfSome result (λ d. IsDay d × (epoch_day date ≡ pos d)) }
         ensures outside { IfNone result ((n : ℕ) → IsDay n → ¬ (epoch_day date ≡ pos n)) }
@@ -71,8 +71,8 @@ impl Day {
     }
 }
 
-/// A date from 1970-01-01 that is a day or falls due after one: up to 2209-12-29. It is seen as the
-/// number of days since 1970-01-01, 0 to 87,655.
+/// A date from 1970-01-01 to 2209-12-29: a day, or when something falls due after one. It is seen
+/// as the number of days since 1970-01-01, 0 to 87,655.
 #[derive(Clone, Copy, PartialEq, Eq, PartialOrd, Ord)]
 pub struct Date {
     pub(crate) number: u32,
@@ -92,7 +92,7 @@ impl Model for Date {
 }
 
 impl Date {
-    /// The date as the calendar has it.
+    /// The date as a year, a month and a day.
     fn civil(self) -> CivilDate
         ensures { epoch_day result ≡ pos self }
     {
@@ -111,8 +111,8 @@ fn two_digits(tens: u8, ones: u8) -> Option<u8>
     Some((tens - b'0') * 10 + (ones - b'0'))
 }
 
-/// The date with these numbers, if the calendar has one. `century` is what the year's first two
-/// digits spell, and `year` what its last two spell.
+/// The date with these numbers, if the calendar has one. `century` is the number of the year's
+/// first two digits, and `year` of its last two.
 fn date_of(century: u8, year: u8, month: u8, day: u8) -> Option<CivilDate>
     requires century_in { century < 100 }
     requires year_in { year < 100 }
@@ -141,7 +141,7 @@ pub fn read_day(bytes: &[u8]) -> Option<Day>
     Day::from_date(date_of(century, year, month, day)?)
 }
 
-/// Appends a date as `YYYY-MM-DD`. The error means that a growth was refused.
+/// Appends a date as `YYYY-MM-DD`.
 pub fn push_date(text: &mut String, date: Date) -> Result<(), AllocError>
     ensures { OnOk result (string_bytes text.new ≡ string_bytes text.old ++ day_text date) }
 {
@@ -149,7 +149,7 @@ pub fn push_date(text: &mut String, date: Date) -> Result<(), AllocError>
     write!(text, "{civil}")
 }
 
-/// The spelling `YYYY-MM-DD` of a date. `NoMemory` means that a growth was refused.
+/// The spelling `YYYY-MM-DD` of a date.
 pub fn write_date(alloc: Global, date: Date) -> Result<String, NoMemory>
     ensures { IfOk result (λ text. string_bytes text ≡ day_text date) }
 {
@@ -158,7 +158,7 @@ pub fn write_date(alloc: Global, date: Date) -> Result<String, NoMemory>
     Ok(text)
 }
 
-/// The spelling `YYYY-MM-DD` of a day. `NoMemory` means that a growth was refused.
+/// The spelling `YYYY-MM-DD` of a day.
 pub fn write_day(alloc: Global, day: Day) -> Result<String, NoMemory>
     ensures { IfOk result (λ text. string_bytes text ≡ day_text day) }
 {

@@ -18,7 +18,7 @@ use crate::refusal::CabinetRefusal;
 use signal_values::Amount;
 use std::alloc::{AllocError, Global};
 
-/// A row of the register to be written, in place of the one under its key, if there is one.
+/// A row of the register that is to replace the one under its key, if there is one.
 #[derive(Drop)]
 pub enum CabinetChange {
     PutInspection(Inspection),
@@ -34,13 +34,13 @@ pub enum CabinetChange {
 pub enum Recorded {
     /// It puts these rows, in this order.
     Added(Vec<CabinetChange>),
-    /// It changes nothing: what it asks for is there already.
+    /// It changes nothing: what it asks for is already recorded.
     Same,
 }
 
-/// Records an inspection. `there` is the inspection that has its number, if one has.
+/// Records an inspection. `there` is the recorded inspection with its number, if there is one.
 ///
-/// `InspectionDiffers` where `there` is another one; `NoMemory` where a growth was refused.
+/// `InspectionDiffers` if `there` is another inspection.
 pub fn inspect(
     alloc: Global,
     there: &Option<Inspection>,
@@ -62,7 +62,7 @@ pub fn inspect(
     }
 }
 
-/// Whether an order has the number, day, clerk and text of an opening, be it open or closed.
+/// Whether an order, open or closed, has the number, day, clerk and text of an opening.
 fn is_opened_so(there: &Order, asked: &Opening) -> bool
     ensures { result ≡ is_opened_so there.now asked.now }
 {
@@ -85,9 +85,9 @@ fn new_order(asked: &Opening) -> Result<Order, AllocError>
     })
 }
 
-/// Opens an order. `there` is the order that has its number, if one has.
+/// Opens an order. `there` is the recorded order with its number, if there is one.
 ///
-/// `OrderDiffers` where day, clerk or text of `there` differ; `NoMemory` if a growth was refused.
+/// `OrderDiffers` if `there` has another day, clerk or text.
 pub fn open_order(
     alloc: Global,
     there: &Option<Order>,
@@ -108,7 +108,7 @@ pub fn open_order(
     }
 }
 
-/// How many of a part are on hand: 0 where nothing is stored of it.
+/// How many of a part are on hand: 0 if the part has no row.
 fn on_hand(hand: Option<Hand>) -> u32
     ensures value { result ≡ on_hand hand }
     ensures bound { result ≤ MOST_ON_HAND }
@@ -119,14 +119,14 @@ fn on_hand(hand: Option<Hand>) -> u32
     }
 }
 
-/// How many of a part are left when these are used, unless they are more than are on hand.
+/// How many of a part are left after this use, unless it takes more than are on hand.
 fn left_on_hand(hand: Option<Hand>, used: Amount) -> Option<Hand>
     ensures { result ≡ (if nat_lt (on_hand hand) used then None else Some (on_hand hand - used)) }
 {
     Hand::new(on_hand(hand).checked_sub(used.get())?)
 }
 
-/// How many of a part are on hand when these have come, unless that is more than 999,999,999.
+/// How many of a part are on hand after this delivery, unless they are more than 999,999,999.
 fn raised_on_hand(hand: Option<Hand>, delivered: Amount) -> Option<Hand>
     ensures { result ≡ (if nat_lt MOST_ON_HAND (on_hand hand + delivered)
         then None else Some (on_hand hand + delivered)) }
@@ -134,11 +134,11 @@ fn raised_on_hand(hand: Option<Hand>, delivered: Amount) -> Option<Hand>
     Hand::new(on_hand(hand) + delivered.get())
 }
 
-/// Takes a part from stock for an order. `there` is the used part that has its order and line,
+/// Takes a part from stock for an order. `there` is the recorded line with its order and number,
 /// `order` the order, and `hand` how many of the part are on hand; each may be missing.
 ///
-/// The first that holds: `LineDiffers` where `there` is another line; `UnknownOrder` without an
-/// order; `OrderClosed`; `NoStock` where fewer are on hand; `NoMemory` where a growth was refused.
+/// The first of these that holds: `LineDiffers` if `there` is another line, `UnknownOrder` without
+/// an order, `OrderClosed` if it is closed, `NoStock` if too few are on hand.
 pub fn use_part(
     alloc: Global,
     there: &Option<UsedLine>,
@@ -173,10 +173,10 @@ pub fn use_part(
     Ok(Recorded::Added(vec![in alloc; line, part]?))
 }
 
-/// Closes an order. `order` is the order that is there, if one is.
+/// Closes an order. `order` is the recorded order with its number, if there is one.
 ///
-/// In this order: `UnknownOrder` without an order; `CloseDiffers` where it was closed on another
-/// day or by another clerk; `DayBeforeOpening` if opened later; `NoMemory` for want of memory.
+/// The first of these that holds: `UnknownOrder` without an order, `CloseDiffers` if it was closed
+/// on another day or by another clerk, `DayBeforeOpening` if it was opened on a later day.
 pub fn close_order(
     alloc: Global,
     order: &Option<Order>,
@@ -207,11 +207,11 @@ pub fn close_order(
     Ok(Recorded::Added(vec![in alloc; order]?))
 }
 
-/// Takes a delivery into stock. `there` is the delivery that has its part and number, if one has,
-/// and `hand` how many of the part are on hand, nothing where there never was a delivery of it.
+/// Takes a delivery into stock. `there` is the recorded delivery with its part and number, if there
+/// is one, and `hand` how many of the part are on hand, `None` if it was never delivered.
 ///
-/// The first that holds: `DeliveryDiffers` where `there` is another one; `StockFull` where more
-/// than 999,999,999 would be on hand; `NoMemory` where a growth was refused.
+/// The first of these that holds: `DeliveryDiffers` if `there` is another delivery, `StockFull` if
+/// more than 999,999,999 would then be on hand.
 pub fn receive(
     alloc: Global,
     there: &Option<Delivery>,

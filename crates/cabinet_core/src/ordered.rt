@@ -9,16 +9,15 @@ use std::marker::Model;
 pub trait Placed {
     ghost use Rattle.std.specs.Prelude.{◌≡◌, ℕ};
 
-    /// The number by which such records are ordered.
+    /// The number that orders records of this kind.
     ghost place: { Self → ℕ };
 
-    /// The number by which such records are ordered.
+    /// The number that orders records of this kind.
     fn place(&self) -> u32
         ensures { result ≡ place self.now };
 }
 
-/// Records in the ascending order of their places, as those that the register holds of an
-/// intersection. They are seen as a list.
+/// Records of one kind in the ascending order of their places. They are seen as a list.
 #[derive(Drop)]
 pub struct Ordered<T: Placed> {
     list: Vec<T>,
@@ -60,7 +59,7 @@ impl<T: Placed> Ordered<T> {
     ghost use Rattle.std.specs.Prelude.{◌≡◌};
 
     /// The records of a list, in the ascending order of their places. A list in that order stays as
-    /// it is; else records with equal places may come in any order.
+    /// it is; in another, records with equal places may come in any order.
     pub fn new(list: Vec<T>) -> Ordered<T>
         ensures in_order { IsNonDecreasingBy T.place result }
         ensures all { IsPermutation list.items result }
@@ -81,7 +80,7 @@ impl<T: Placed> Ordered<T> {
         self.list.as_slice()
     }
 
-    /// The records as a list of its own, in their order, which takes no further memory.
+    /// The records as a list of their own, in order, without further memory.
     pub fn into_vec(self) -> Vec<T>
         ensures records { result.items ≡ self }
         ensures in_order { IsNonDecreasingBy T.place self }

@@ -24,7 +24,7 @@ pub struct Seen {
 pub struct OverdueRow {
     pub id: InterId,
     pub name: Words<120>,
-    /// The day on which the inspection fell due; nothing where there never was one.
+    /// The day on which the inspection fell due; none if there never was an inspection.
     pub due: Option<Date>,
 }
 
@@ -38,7 +38,7 @@ pub fn later(day: Day, last: Option<Day>) -> Day
     }
 }
 
-/// The latest day of some inspections; none where there are no inspections.
+/// The latest day of some inspections; none if there are no inspections.
 pub fn latest(inspections: &[Inspection]) -> Option<Day>
     ensures { result ≡ latest_day inspections.now }
 {
@@ -49,8 +49,8 @@ pub fn latest(inspections: &[Inspection]) -> Option<Day>
     latest
 }
 
-/// The day on which the next inspection falls due: the interval after the last one. It may lie
-/// past 2199-12-31.
+/// The day on which the next inspection falls due: the interval after the last one. It may be past
+/// 2199-12-31.
 pub fn due(last: Day, interval: Interval) -> Date
     ensures { result ≡ last + interval }
 {
@@ -59,9 +59,8 @@ pub fn due(last: Day, interval: Interval) -> Date
     }
 }
 
-/// The row of an intersection that is overdue on the day: that was never inspected, or whose
-/// inspection fell due before the day. There is none where it is not overdue. `NoMemory` means
-/// that a growth was refused.
+/// The row of an intersection that is overdue on the day: it was never inspected, or its inspection
+/// fell due before the day. There is none if it is not overdue.
 pub fn overdue_row(day: Day, seen: &Seen) -> Result<Option<OverdueRow>, NoMemory>
     ensures { IfOk result (λ row. lateness day seen.now ≡ option_map listed_of row) }
 {
@@ -82,9 +81,8 @@ pub fn overdue_row(day: Day, seen: &Seen) -> Result<Option<OverdueRow>, NoMemory
     }))
 }
 
-/// The intersections that are overdue on the day: those that were never inspected, and those
-/// whose inspection fell due before the day. They come in the order of the rows. `NoMemory` means
-/// that a growth was refused.
+/// The intersections that are overdue on the day: those that were never inspected, and those whose
+/// inspection fell due before the day. They come in the order of the rows.
 pub fn overdue(alloc: Global, day: Day, rows: &[Seen]) -> Result<Vec<OverdueRow>, NoMemory>
     ensures { IfOk result (λ found. map listed_of found.items ≡ overdue_list day rows.now) }
 {

@@ -1,4 +1,4 @@
-//! Parts, and how many of one are on hand.
+//! Parts, and how many of them are on hand.
 
 ghost use Rattle.std.specs.Prelude.{◌≡◌, ◌↔◌, IsSome, IfSome, IfOk, IfErr};
 ghost use Rattle.cabinet_core.specs.Part.{IsPartCode, is_code_byte};
@@ -17,8 +17,8 @@ pub enum Stocked {}
 /// How many pieces of a part are on hand: 0 to 999,999,999.
 pub type Hand = Number<Stocked, 0, MOST_ON_HAND>;
 
-/// The code of a part: 1 to 20 of the bytes `A` to `Z`, `0` to `9` and `-`. It is seen as the
-/// list of its bytes, and ordered by them.
+/// The code of a part: 1 to 20 bytes, each `A` to `Z`, `0` to `9` or `-`. It is seen as the list of
+/// its bytes, and ordered by them.
 #[derive(Drop)]
 pub struct PartCode {
     text: String,
@@ -54,7 +54,7 @@ impl PartCode {
         Some(text)
     }
 
-    /// A code that `parse` gave, in memory of its own. `NoMemory` means that a growth was refused.
+    /// A code that `parse` gave, in memory of its own.
     pub fn from_parsed(alloc: Global, text: &str) -> Result<PartCode, NoMemory>
         requires { IsPartCode text.now }
         ensures { IfOk result (λ code. code ≡ text.now) }
@@ -64,8 +64,7 @@ impl PartCode {
         })
     }
 
-    /// A code of these bytes, if they are one. `NoMemory` means that a growth was refused; only a
-    /// code takes memory.
+    /// A code of these bytes, if they are a part's code. Other bytes take no memory.
     pub fn new(alloc: Global, bytes: &[u8]) -> Result<Option<PartCode>, NoMemory>
         ensures accepts { IfOk result (λ code. IsSome code ↔ IsPartCode bytes.now) }
         ensures keeps { IfOk result (λ code. IfSome code (λ part. part ≡ bytes.now)) }
@@ -86,7 +85,7 @@ impl PartCode {
     }
 }
 
-/// Whether a byte may stand in a part's code: `A` to `Z`, `0` to `9` or `-`.
+/// Whether a byte may occur in a part's code: `A` to `Z`, `0` to `9` or `-`.
 fn is_code_byte(b: u8) -> bool
     ensures { result ≡ is_code_byte b }
 {

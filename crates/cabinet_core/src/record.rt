@@ -18,7 +18,7 @@ pub struct Inspection {
     pub text: Words<500>,
 }
 
-/// What opens an order.
+/// The opening of an order: when, by whom, and what for.
 #[derive(Drop, PartialEq, Eq)]
 pub struct Opening {
     pub number: RecordNo,
@@ -28,7 +28,7 @@ pub struct Opening {
     pub text: Words<500>,
 }
 
-/// What closes an order.
+/// When and by whom an order is closed.
 #[derive(Drop, PartialEq, Eq)]
 pub struct Closing {
     pub day: Day,
@@ -46,7 +46,7 @@ pub struct Order {
     pub clerk: Words<40>,
     /// What is to be done.
     pub text: Words<500>,
-    /// When and by whom the order was closed; nothing while it is open.
+    /// When and by whom the order was closed; none while it is open.
     pub closing: Option<Closing>,
 }
 
@@ -77,8 +77,7 @@ pub struct CabinetView {
     pub inspections: Ordered<Inspection>,
     /// The orders, in the order of their numbers.
     pub orders: Ordered<Order>,
-    /// The used parts, in the order of their orders' numbers, and those of an order in the order of
-    /// their lines.
+    /// The used parts, in the order of their orders' numbers, and in an order by their lines.
     pub lines: Ordered<UsedLine>,
 }
 

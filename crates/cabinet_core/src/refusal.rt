@@ -5,7 +5,7 @@ ghost use Rattle.cabinet_core.specs.Refusal.{line_of};
 
 use std::alloc::{AllocError, AllocFailed};
 
-/// Why a command on the register is refused. Nothing is changed then.
+/// Why a command on the register is refused. Nothing is then changed.
 #[derive(Clone, Copy, Debug, PartialEq, Eq)]
 pub enum CabinetRefusal {
     /// Another inspection has the number.
@@ -16,11 +16,11 @@ pub enum CabinetRefusal {
     UnknownOrder,
     /// The order is closed.
     OrderClosed,
-    /// The order was opened on a later day than that of the closing.
+    /// The order was opened on a later day than the closing.
     DayBeforeOpening,
-    /// Fewer pieces are on hand than are to be used.
+    /// Too few pieces are on hand.
     NoStock,
-    /// More than 999,999,999 pieces would be on hand.
+    /// More than 999,999,999 pieces would then be on hand.
     StockFull,
     /// Another delivery of the part has the number.
     DeliveryDiffers,
@@ -28,7 +28,7 @@ pub enum CabinetRefusal {
     LineDiffers,
     /// The order was closed on another day or by another clerk.
     CloseDiffers,
-    /// A growth was refused. It comes only where the command would change the register.
+    /// Memory was refused. It comes only if the command would change the register.
     NoMemory,
 }
 
@@ -53,7 +53,7 @@ impl CabinetRefusal {
         }
     }
 
-    /// The refusal's number, by which clients know it: 20 to 29, or 90 for want of memory.
+    /// The refusal's number, by which clients know it: 20 to 29, or 90 for `NoMemory`.
     pub fn number(self) -> u32
         ensures { result ≡ (line_of self).0 }
     {

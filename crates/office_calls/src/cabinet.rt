@@ -96,7 +96,7 @@ pub(crate) fn make_delivery(alloc: Global) -> Result<Delivery, Fail> {
     })
 }
 
-/// The number of a refusal, 0 where rows are to be put, and 1 where an equal record is there.
+/// The number of a refusal; 0 if a record is added, and 1 if an equal one is there.
 fn number(answer: Result<Recorded, CabinetRefusal>) -> u32 {
     match answer {
         Ok(Recorded::Added(_)) => 0,
@@ -105,8 +105,8 @@ fn number(answer: Result<Recorded, CabinetRefusal>) -> u32 {
     }
 }
 
-/// What comes of each decision: there is no order, nothing was delivered, and the inspection is
-/// there.
+/// The outcome of each decision, where there is no order, nothing was delivered, and the inspection
+/// is there.
 fn decisions(alloc: Global) -> Result<[u32; 5], Fail> {
     let there = Some(make_inspection(alloc)?);
     let asked = make_inspection(alloc)?;
@@ -157,7 +157,7 @@ fn register(rt: HostRuntime) -> Result<(), Fail> {
     Ok(())
 }
 
-/// An order is closed by a clerk, and the type has neither without the other.
+/// A closed order has a day and a clerk; the type allows neither without the other.
 #[test]
 fn closed_orders(rt: HostRuntime) -> Result<(), Fail> {
     let order = make_order(rt.alloc())?;

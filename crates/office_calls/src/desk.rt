@@ -122,7 +122,7 @@ fn kind(reply: &Reply) -> &'static str {
     }
 }
 
-/// What is replied to commands, each behind a blank.
+/// The replies to commands, each after a blank.
 fn replies<S: Shelf>(
     alloc: Global,
     office: &mut Office<S>,
@@ -137,7 +137,7 @@ fn replies<S: Shelf>(
     Ok(kinds)
 }
 
-/// Decides a command, makes its changes, and runs it again. Tells how many changes it made, and
+/// Decides a command, makes its changes, and runs it again. Gives how many changes it made, and
 /// what the second reply is.
 fn decide_and_run<S: Shelf>(
     alloc: Global,

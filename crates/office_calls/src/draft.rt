@@ -9,7 +9,7 @@ use signal_records::TimingSet;
 use std::alloc::Global;
 use std::test::Fail;
 
-/// What is kept of a timing side in state Normal, by its fields.
+/// The timing of an intersection in state Normal, by its fields.
 fn normal(alloc: Global) -> Result<Timing, Fail> {
     Ok(Timing {
         revision: Revision::new(4).ok_or("a revision")?,
@@ -19,7 +19,7 @@ fn normal(alloc: Global) -> Result<Timing, Fail> {
     })
 }
 
-/// The number of a refusal, and 0 of a step that begins a transaction.
+/// The number of a refusal; 0 for a step that begins a transaction, 1 for any other step.
 fn number(answer: Result<Move, DraftRefusal>) -> u32 {
     match answer {
         Ok(
@@ -34,7 +34,7 @@ fn number(answer: Result<Move, DraftRefusal>) -> u32 {
     }
 }
 
-/// What comes of each step.
+/// The outcome of each step.
 fn steps(alloc: Global, timing: &Timing) -> Result<[u32; 7], Fail> {
     let clerk = make_words(alloc, "Ana")?;
     let changes = changes(alloc)?;

@@ -12,19 +12,19 @@ use signal_rules::violations;
 use std::alloc::Global;
 use std::test::Fail;
 
-/// A file of one record each.
+/// Two files, of one record each.
 const SPLIT: &str = "split,4,1,35,3,1\n";
 
 const INSPECTION: &str = "inspection,12,1,2026-05-01,Ana,Fan\n";
 
-/// How many changes and records are read of files.
+/// How many changes and records are read from the files.
 fn count_read(alloc: Global) -> Result<(usize, usize), Fail> {
     let changes: Vec<Change> = read_timing_csv(alloc, SPLIT.as_bytes())?;
     let records: Vec<RecordCommand> = read_records_csv(alloc, INSPECTION.as_bytes())?;
     Ok((changes.len(), records.len()))
 }
 
-/// Whether a text begins so.
+/// Whether a text begins with `wanted`.
 fn begins(text: &[u8], wanted: &str) -> bool {
     text.starts_with(wanted.as_bytes())
 }

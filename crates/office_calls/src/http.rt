@@ -20,10 +20,10 @@ use std::test::Fail;
 /// A request, and another one that ends its stream.
 const STREAM: &[u8] = b"GET /stock HTTP/1.1\r\n\r\nGET /x HTTP/1.0\r\n\r\n";
 
-/// How many bytes the first one takes.
+/// How many bytes its first request takes.
 const FIRST: usize = 23;
 
-/// A source of its own, by one call.
+/// A caller's own source: it needs one function.
 #[derive(Drop)]
 struct Given<'a> {
     bytes: &'a [u8],
@@ -40,7 +40,7 @@ impl Source for Given<'_> {
     }
 }
 
-/// A sink of its own, which keeps nothing but its counts.
+/// A caller's own sink, which keeps only its counts.
 #[derive(Drop)]
 struct Counting {
     counts: Counts,
@@ -56,7 +56,7 @@ impl Sink for Counting {
     }
 }
 
-/// The request at the front of some bytes, if it ends there as it should.
+/// The request at the front of some bytes, if it takes `FIRST` bytes.
 fn front(bytes: &[u8]) -> Option<Request<'_>> {
     match next_request(bytes) {
         Front::Whole { request, length } if length == FIRST => Some(request),
@@ -115,7 +115,7 @@ fn end_of(served: &Result<Served, ServeFault>) -> (&'static str, u32) {
     }
 }
 
-/// How the stream ends over these two, and how often each is called.
+/// How the stream ends over that source and that sink, and how often each is called.
 fn counted<S: Shelf>(alloc: Global, office: &mut Office<S>) -> ((&'static str, u32), [u64; 2]) {
     let mut source = Given {
         bytes: STREAM,
@@ -128,7 +128,7 @@ fn counted<S: Shelf>(alloc: Global, office: &mut Office<S>) -> ((&'static str, u
     (end_of(&served), [source.counts.calls, sink.counts.calls])
 }
 
-/// What a writer takes of the answers to the stream.
+/// What a writer takes when one request of the stream is served.
 fn serve_a_writer<S: Shelf>(alloc: Global, office: &mut Office<S>) -> Vec<u8> {
     let mut source = FromRead::new(STREAM);
     let mut sink = ToWrite::new(Vec::new(alloc));
@@ -136,7 +136,7 @@ fn serve_a_writer<S: Shelf>(alloc: Global, office: &mut Office<S>) -> Vec<u8> {
     sink.writer
 }
 
-/// Whether no connection of a listener is served where none is asked for.
+/// Whether serving no connection of a listener succeeds.
 fn listens<S: Shelf>(
     rt: &HostRuntime,
     alloc: Global,

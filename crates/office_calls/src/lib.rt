@@ -1,9 +1,9 @@
 //! Each public call of the libraries and of the program, once, by its name, its form and the order
-//! of its parameters: a file for each crate is the list of that crate's calls. A caller written as
-//! these are compiles.
+//! of its parameters: a file for each crate is the list of that crate's calls. A caller written
+//! like these compiles.
 //!
-//! What becomes of the calls over many values is said by their contracts, and tried by rows and by
-//! `office_trials`. `SqlShelf` is opened and given back there (`files.rt`), over files in memory.
+//! What the calls do over many values is said by their contracts, and tried by rows and by
+//! `office_trials`, which also opens a `SqlShelf` over files in memory (`files.rt`).
 #![tactic(auto)]
 
 #[cfg(test)]

@@ -6,7 +6,7 @@ use signal_office_line::{Job, JobFault, ListForm, job_of};
 use std::alloc::Global;
 use std::test::Fail;
 
-/// Words behind the program's name, and the job that they state.
+/// Words after the program's name, and the job that they state.
 const JOBS: [(&str, &str); 9] = [
     ("batch --db city.db", "batch"),
     ("serve --port 8080 --count 3", "serve"),
@@ -54,7 +54,7 @@ fn kind(found: &Result<Job<'_>, JobFault>) -> &'static str {
     }
 }
 
-/// The words of a line, behind the program's name.
+/// The words of a line, after the program's name.
 fn words_of<'a>(alloc: Global, line: &'a str) -> Result<Vec<&'a str>, Fail> {
     let mut words = Vec::new(alloc);
     words.push("signal_office")?;

@@ -117,7 +117,7 @@ fn pattern(at: Numbers) -> Option<Pattern> {
     })
 }
 
-/// A row of each kind is put, and the last one removed.
+/// Puts a row of each kind, and removes the pattern.
 pub(crate) fn changes(alloc: Global) -> Result<Vec<Change>, Fail> {
     let at = numbers_of_plan().ok_or("numbers")?;
     let last = pattern(at).ok_or("a pattern")?;
@@ -157,7 +157,7 @@ fn looked_up(alloc: Global, set: &TimingSet) -> Result<(usize, bool, bool), Fail
     Ok((rows.len(), found.0, found.1))
 }
 
-/// Whether fields are read as a row and as a change, and the row is written so again.
+/// Whether fields are read as a row and as a change, and the row is written as these fields again.
 fn is_spelled(alloc: Global, fields: &[&[u8]]) -> Result<bool, Fail> {
     let row: Result<Row, RowFault> = read_row(alloc, fields);
     let row = row?;

@@ -8,7 +8,7 @@ use signal_rules::{
 use std::alloc::Global;
 use std::test::Fail;
 
-/// How many violations a judge finds where the phase has changed, and in the sequence alone.
+/// How many violations a judge finds if the phase has changed, and in the sequence only.
 fn judged<J: Judge>(
     alloc: Global,
     base: &TimingSet,
@@ -22,8 +22,8 @@ fn judged<J: Judge>(
     Ok((all.len(), one.len()))
 }
 
-/// The phase lists others that are missing, and the sequence has it in another ring's row, with one
-/// that is missing.
+/// The phase has mates that are missing, and the sequence lists, after the phase, one that is
+/// missing.
 #[test]
 fn rules(rt: HostRuntime) -> Result<(), Fail> {
     let alloc = rt.alloc();

@@ -61,8 +61,8 @@ fn addition(alloc: Global) -> Result<RowChange, Fail> {
     Ok(RowChange::AddIntersection(at.id, row))
 }
 
-/// Adds an intersection to a shelf, and reads all of it. Tells whether the intersection is there,
-/// and nothing else.
+/// Adds an intersection to a shelf, and reads all of it. Gives whether the shelf has that
+/// intersection, and nothing else.
 fn is_filled<S: Shelf>(alloc: Global, shelf: &mut S) -> Result<bool, Fail> {
     let id = at()?.id;
     let change = addition(alloc)?;
@@ -75,7 +75,8 @@ fn is_filled<S: Shelf>(alloc: Global, shelf: &mut S) -> Result<bool, Fail> {
     Ok(lacks && found == (1, true) && written == 1)
 }
 
-/// Whether tables are made and filled in a database, and that is given back.
+/// Makes and fills tables in a database. Gives whether they hold what they should, and the
+/// database.
 fn are_made<S: Alter + Drop>(
     alloc: Global,
     conn: Connection<S>,

@@ -16,6 +16,6 @@ changes_of text = csv_rows (change_at current_limits) (csv_records text)
 abbrev pub spellings : List Change → List (List (List ℕ))
 spellings changes = map (change_spelling current_limits) changes
 
--- each change has its numbers in their ranges of today
+-- each change has its numbers in today's ranges
 abbrev pub AreWithin : List Change → Type 0
 AreWithin changes = All (IsChangeWithin current_limits) changes

@@ -15,12 +15,12 @@ abbrev pub fault_at : ℕ → RowFault → CsvFault
 fault_at at row.NoMemory = file.NoMemory
 fault_at at fault = file.Row (bad_row at fault)
 
--- what was read of the record with this number, or its fault as the file's
+-- what was read from the record with this number, or its fault as the file's
 abbrev pub told_at : {T : Type 0} → ℕ → Result T RowFault → Result T CsvFault
 told_at at (Ok row) = Ok row
 told_at at (Err fault) = Err (fault_at at fault)
 
--- where the fault of a file names a bad record, that record's fault is not want of memory
+-- if the fault of a file names a bad record, that record's fault is not NoMemory
 abbrev pub NamesFault : CsvFault → Type 0
 NamesFault (file.Row bad) = bad.fault ≢ row.NoMemory
 NamesFault file.NoMemory = Unit

@@ -11,11 +11,11 @@ add_row at (Err fault) rest = Err (file.Row (bad_row at fault))
 add_row at (Ok row) (Ok rows) = Ok (row ∷ rows)
 add_row at (Ok row) (Err fault) = Err fault
 
--- what records spell, of which the first has this number, or the first that spells nothing
+-- what records spell, the first of which has this number, or the fault of the first that spells nothing
 unfoldable pub rows_from : {T : Type 0} → (List (List ℕ) → Result T RowFault) → ℕ → List (List (List ℕ)) → Result (List T) CsvFault
 rows_from reading at [] = Ok []
 rows_from reading at (fields ∷ records) = add_row at (reading fields) (rows_from reading (at + 1) records)
 
--- what the records of a file spell, or the first that spells nothing; they are counted from 1
+-- what the records of a file spell, or the fault of the first that spells nothing; they are counted from 1
 abbrev pub csv_rows : {T : Type 0} → (List (List ℕ) → Result T RowFault) → List (List (List ℕ)) → Result (List T) CsvFault
 csv_rows reading records = rows_from reading 1 records

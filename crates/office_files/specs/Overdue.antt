@@ -4,7 +4,8 @@ use Rattle.cabinet_core.specs.Day.{day_text}
 use Rattle.cabinet_core.specs.declared.overdue_inspections.OverdueRow.{OverdueRow}
 use Rattle.office_files.specs.Cells.{right_aligned}
 
--- the day on which an inspection fell due, as `YYYY-MM-DD`, or `never` and five spaces where there never was one: ten places
+-- the day on which an inspection fell due, as `YYYY-MM-DD`, or `never` and five spaces if there never was one: ten
+-- bytes
 abbrev pub due_written : Option ℕ → List ℕ
 due_written None = codes "never     "
 due_written (Some due) = day_text due

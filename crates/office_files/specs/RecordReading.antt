@@ -11,12 +11,12 @@ use Rattle.cabinet_core.specs.Part.{is_code_byte}
 use Rattle.cabinet_core.specs.declared.command.RecordCommand.{RecordCommand}
 use Rattle.cabinet_core.specs.declared.command.RecordCommand.TheVariants as command
 
--- which of the first so many days from 1970-01-01 on a text spells as `YYYY-MM-DD`
+-- the day, among the first so many from 1970-01-01 on, that a text spells as `YYYY-MM-DD`
 unfoldable pub day_among : ℕ → List ℕ → Option ℕ
 day_among zero text = None
 day_among (suc n) text = if bytes_eq text (day_text n) then Some n else day_among n text
 
--- the day that a text spells, as days after 1970-01-01, of those to 2199-12-31
+-- the day that a text spells, as days after 1970-01-01, up to 2199-12-31
 unfoldable pub day_of : List ℕ → Option ℕ
 day_of text = day_among 84_006 text
 
@@ -24,15 +24,15 @@ day_of text = day_among 84_006 text
 unfoldable pub day_at : ℕ → List (List ℕ) → Result ℕ RowFault
 day_at place fields = ok_or (day_of (text_at place fields)) (fault.Day place)
 
--- the byte is of no control character
+-- the byte is no control character
 abbrev pub is_printed : ℕ → Bool
 is_printed b = nat_le 32 b && not (b == 127)
 
--- the text is words: UTF-8, 1 to `max` bytes, none of them of a control character
+-- the text is words: UTF-8, 1 to `max` bytes, none of them a control character
 abbrev pub is_words : ℕ → List ℕ → Bool
 is_words max text = is_utf8 text && (nat_le 1 (length text) && (nat_le (length text) max && list_all is_printed text))
 
--- a text, where it is words of at most `max` bytes
+-- a text, if it is words of at most `max` bytes
 unfoldable pub words_of : ℕ → List ℕ → Option (List ℕ)
 words_of max text = if is_words max text then Some text else None
 
@@ -44,7 +44,7 @@ words_at max place fields = ok_or (words_of max (text_at place fields)) (fault.T
 abbrev pub is_part_code : List ℕ → Bool
 is_part_code text = nat_le 1 (length text) && (nat_le (length text) 20 && list_all is_code_byte text)
 
--- a text, where it is the code of a part
+-- a text, if it is the code of a part
 unfoldable pub part_of : List ℕ → Option (List ℕ)
 part_of text = if is_part_code text then Some text else None
 
@@ -52,7 +52,7 @@ part_of text = if is_part_code text then Some text else None
 unfoldable pub part_at : ℕ → List (List ℕ) → Result (List ℕ) RowFault
 part_at place fields = ok_or (part_of (text_at place fields)) (fault.Text place)
 
--- the inspection that the six fields of a record spell, or the first bad one from the left
+-- the inspection that the six fields of a record spell, or the first fault from the left
 unfoldable pub inspection_at : List (List ℕ) → Result RecordCommand RowFault
 inspection_at fields = do
   id ← number_at 1 9999 2 fields
@@ -62,7 +62,7 @@ inspection_at fields = do
   text ← words_at 500 6 fields
   Ok (command.Inspect id (record { number = number; day = day; clerk = clerk; text = text }))
 
--- the opening of an order that the six fields of a record spell, or the first bad one from the left
+-- the opening of an order that the six fields of a record spell, or the first fault from the left
 unfoldable pub opening_at : List (List ℕ) → Result RecordCommand RowFault
 opening_at fields = do
   id ← number_at 1 9999 2 fields
@@ -72,7 +72,7 @@ opening_at fields = do
   text ← words_at 500 6 fields
   Ok (command.OpenOrder id (record { number = number; day = day; clerk = clerk; text = text }))
 
--- the used part that the six fields of a record spell, or the first bad one from the left
+-- the used part that the six fields of a record spell, or the first fault from the left
 unfoldable pub use_at : List (List ℕ) → Result RecordCommand RowFault
 use_at fields = do
   id ← number_at 1 9999 2 fields
@@ -82,7 +82,7 @@ use_at fields = do
   count ← number_at 1 999_999_999 6 fields
   Ok (command.UsePart id (record { order = order; line = line; part = part; count = count }))
 
--- the closing of an order that the five fields of a record spell, or the first bad one from the left
+-- the closing of an order that the five fields of a record spell, or the first fault from the left
 unfoldable pub close_at : List (List ℕ) → Result RecordCommand RowFault
 close_at fields = do
   id ← number_at 1 9999 2 fields
@@ -91,7 +91,7 @@ close_at fields = do
   closer ← words_at 40 5 fields
   Ok (command.CloseOrder id order (record { day = day; closer = closer }))
 
--- the delivery that the five fields of a record spell, or the first bad one from the left
+-- the delivery that the five fields of a record spell, or the first fault from the left
 unfoldable pub delivery_at : List (List ℕ) → Result RecordCommand RowFault
 delivery_at fields = do
   part ← part_at 2 fields

@@ -30,7 +30,7 @@ close_fields id order r = codes "close" ∷ decimal id ∷ decimal order ∷ day
 abbrev pub delivery_fields : Delivery → List (List ℕ)
 delivery_fields r = codes "delivery" ∷ r.part ∷ decimal r.number ∷ day_text r.day ∷ decimal r.count ∷ []
 
--- the fields of a command of the register: its kind, and what follows by kind
+-- the fields of a command of the register: its kind, and the fields of that kind
 abbrev pub record_spelling : RecordCommand → List (List ℕ)
 record_spelling (command.Inspect id r) = inspection_fields id r
 record_spelling (command.OpenOrder id r) = opening_fields id r

@@ -29,32 +29,32 @@ AreRecordsWithin commands = All IsRecordWithin commands
 abbrev pub opening_of : Order → Opening
 opening_of order = record { number = order.number; day = order.opened; clerk = order.clerk; text = order.text }
 
--- the used part is of the order with this number
+-- the used part belongs to the order with this number
 abbrev pub is_line_of : ℕ → UsedLine → Bool
 is_line_of order line = line.order == order
 
--- the closing of an order as a command, where there is one
+-- the closing of an order as a command, if there is one
 abbrev pub close_commands : ℕ → ℕ → Option Closing → List RecordCommand
 close_commands id order None = []
 close_commands id order (Some closing) = command.CloseOrder id order closing ∷ []
 
--- the commands that made an order as it stands: its opening, those of the lines that are its own, its closing if it is closed
+-- the commands that made an order as it is: its opening, its own lines among these, and its closing if it is closed
 abbrev pub order_commands : ℕ → List UsedLine → Order → List RecordCommand
 order_commands id lines order =
     command.OpenOrder id (opening_of order) ∷ (map (command.UsePart id) (filter (is_line_of order.number) lines) ++ close_commands id order.number order.closing)
 
--- the view is in the order of its file: inspections and orders stand by their numbers, used parts by
--- their orders, and those of an order by their lines
+-- the view is in the order of its file: inspections and orders by their numbers, used parts by their orders, and in
+-- an order by their lines
 pub record IsInFileOrder (view : CabinetView) : Type 0 where
   pub inspections : IsNonDecreasingBy inspection_place view.inspections
   pub orders : IsNonDecreasingBy order_place view.orders
   pub lines : IsNonDecreasingBy line_place view.lines
 
--- the commands that made a cabinet as it stands: its inspections, and then order by order
+-- the commands that made a cabinet as it is: its inspections, and then order by order
 abbrev pub view_commands : ℕ → CabinetView → List RecordCommand
 view_commands id view = map (command.Inspect id) view.inspections ++ flat_map
     (order_commands id view.lines) view.orders
 
--- the CSV file of a cabinet: a record for each command that made it as it stands
+-- the CSV file of a cabinet: a record for each command that made it as it is
 abbrev pub records_csv_text : ℕ → CabinetView → List ℕ
 records_csv_text id view = csv_text (map record_spelling (view_commands id view))

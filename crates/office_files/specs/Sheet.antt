@@ -14,30 +14,31 @@ ped_columns (Some ped) =
     number_column ped.walk ++ number_column ped.clear ++ tenths_column ped.width ++ tenths_column ped.setback ++ flag_column ped.short
     ++ number_column ped.lead
 
--- the columns of a phase before those of its pedestrian part: its number, its ring, minimum green, passage, maximum green, yellow and red;
--- the greens are seconds; passage, yellow and red are tenths of a second with a point
+-- the columns of a phase before its pedestrian part's: its number, its ring, minimum green, passage, maximum green,
+-- yellow and red; the greens are seconds; passage, yellow and red are tenths of a second with a point
 abbrev pub interval_columns : ℕ → Phase → List ℕ
 interval_columns p phase =
     number_column p ++ number_column phase.ring ++ number_column phase.min_green ++ tenths_column phase.passage
     ++ number_column phase.max1 ++ tenths_column phase.yellow ++ tenths_column phase.red
 
--- the line of a row that is a phase, with its mates at the end; none of any other row
+-- the line of a phase row, with its mates at the end; nothing for any other row
 abbrev pub phase_line : Row → List ℕ
 phase_line (row.Phase p phase) = interval_columns p phase ++ ped_columns phase.ped ++ numbers_text phase.mates ++ codes "\n"
 phase_line other = []
 
--- the line of a row of a sequence: its number, its ring and the phases in order; none of any other row
+-- the line of a sequence row: its number, its ring and the phases in order; nothing for any other row
 abbrev pub sequence_line : Row → List ℕ
 sequence_line (row.Seq n ring seq) = number_column n ++ number_column ring ++ numbers_text seq.list ++ codes "\n"
 sequence_line other = []
 
--- the line of a row of a split: its number, its phase, the time, the code of the mode and the flag; none of any other row
+-- the line of a split row: its number, its phase, the time, the code of the mode and the flag; nothing for any other
+-- row
 abbrev pub split_line : Row → List ℕ
 split_line (row.Split n p split) =
     number_column n ++ number_column p ++ number_column split.time ++ number_column (mode_code split.mode) ++ flag_column split.coord ++ codes "\n"
 split_line other = []
 
--- the line of a row that is a pattern: its number, cycle, offset, split and sequence; none of any other row
+-- the line of a pattern row: its number, cycle, offset, split and sequence; nothing for any other row
 abbrev pub pattern_line : Row → List ℕ
 pattern_line (row.Pattern n pattern) =
     number_column n ++ number_column pattern.cycle ++ number_column pattern.offset ++ number_column pattern.split ++ number_column pattern.seq ++ codes "\n"

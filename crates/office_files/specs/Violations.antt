@@ -7,7 +7,7 @@ use Rattle.signal_rules.specs.Texts.{violation_text}
 abbrev pub violation_line : Violation → List ℕ
 violation_line violation = violation_text violation ++ codes "\n"
 
--- a line for each violation, or the one line that there is none
+-- a line for each violation, or the one line `no violations`
 abbrev pub violations_text : List Violation → List ℕ
 violations_text [] = codes "no violations\n"
 violations_text (first ∷ others) = flat_map violation_line (first ∷ others)

@@ -28,8 +28,7 @@ impl CsvRow for RecordCommand {
 
 /// The commands that the records of a CSV file spell, in their order, or the first record that
 /// spells none, counted from 1. No record is a header, records may differ in length, and empty
-/// lines are no records. An empty file has no commands. A byte order mark is taken off. `NoMemory`
-/// means that a growth was refused.
+/// lines are no records. An empty file has no commands. A byte order mark is taken off.
 pub fn read_records_csv(alloc: Global, bytes: &[u8]) -> Result<Vec<RecordCommand>, CsvFault>
     ensures commands { IfOk result (λ commands. commands_of bytes.now ≡ Ok commands.items) }
     ensures fault { IfErr result
@@ -64,7 +63,7 @@ fn push_inspections(
     Ok(())
 }
 
-/// Appends the commands that used parts for an order: those of the lines that name it.
+/// Appends the commands that used parts for an order: one for each of its lines.
 fn push_uses(
     commands: &mut Vec<RecordCommand>,
     id: InterId,
@@ -85,7 +84,7 @@ fn push_uses(
     Ok(())
 }
 
-/// Appends the command that closed an order, where it is closed.
+/// Appends the command that closed an order, if it is closed.
 fn push_closing(
     commands: &mut Vec<RecordCommand>,
     id: InterId,
@@ -116,7 +115,7 @@ fn opening_of(order: &Order) -> Result<Opening, NoMemory>
     })
 }
 
-/// Appends the commands that made an order as it stands: its opening, its uses, its closing.
+/// Appends the commands that made an order as it is: its opening, its uses, its closing.
 fn push_order(
     commands: &mut Vec<RecordCommand>,
     id: InterId,
@@ -134,7 +133,7 @@ fn push_order(
     push_closing(commands, id, order.number, &order.closing)
 }
 
-/// Appends the commands that made these orders as they stand, order by order.
+/// Appends the commands that made these orders as they are, order by order.
 fn push_orders(
     commands: &mut Vec<RecordCommand>,
     id: InterId,
@@ -150,7 +149,7 @@ fn push_orders(
     Ok(())
 }
 
-/// The commands that made a cabinet as it stands: its inspections, and then order by order.
+/// The commands that made a cabinet as it is: its inspections, and then order by order.
 fn view_commands(
     alloc: Global,
     id: InterId,
@@ -171,9 +170,9 @@ fn view_commands(
 }
 
 /// The CSV file of an intersection's cabinet, in UTF-8: its inspections, and then for each order
-/// what opened it, the parts that were used for it, and what closed it. Inspections and orders
-/// stand by their numbers, and the parts of an order by their lines. `read_records_csv` reads it as
-/// the commands that made the cabinet as it stands. `NoMemory` means that a growth was refused.
+/// its opening, the parts that were used for it, and its closing. Inspections and orders are by
+/// number, and the parts of an order by line. `read_records_csv` reads it as the commands that made
+/// the cabinet as it is.
 pub fn records_csv(alloc: Global, id: InterId, view: &CabinetView) -> Result<Vec<u8>, NoMemory>
     ensures text { IfOk result (λ text. text.items ≡ records_csv_text id view.now) }
     ensures in_order { IfOk result (λ _. IsInFileOrder view.now) }

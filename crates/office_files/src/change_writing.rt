@@ -52,9 +52,8 @@ impl CsvRecord for Change {
 }
 
 /// The CSV file of changes of a timing set, in UTF-8: a record for each, in order, with a line feed
-/// after it. A record is the fields of the row that is put, or `remove` and those of the key that
-/// is removed. `read_timing_csv` reads it as these changes. `NoMemory` means that a growth was
-/// refused.
+/// after it. A record has the fields of the row that is put, or `remove` and the fields of the key
+/// that is removed. `read_timing_csv` reads it as these changes.
 pub fn changes_csv(alloc: Global, changes: &[Change]) -> Result<Vec<u8>, NoMemory>
     ensures text { IfOk result (λ text. text.items ≡ changes_csv_text changes.now) }
     ensures utf8 { IfOk result (λ text. IsUtf8 text.items) }

@@ -25,7 +25,6 @@ impl CsvRow for Change {
 /// The changes of a timing set that the records of a CSV file spell, in their order, or the first
 /// record that spells none, counted from 1. No record is a header, records may differ in length,
 /// and empty lines are no records. An empty file has no changes. A byte order mark is taken off.
-/// `NoMemory` means that a growth was refused.
 pub fn read_timing_csv(alloc: Global, bytes: &[u8]) -> Result<Vec<Change>, CsvFault>
     ensures changes { IfOk result (λ changes. changes_of bytes.now ≡ Ok changes.items) }
     ensures fault { IfErr result

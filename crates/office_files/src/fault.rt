@@ -12,7 +12,7 @@ use std::fmt;
 pub struct BadRow {
     /// Which record, counted from 1. Empty lines are no records.
     pub at: usize,
-    /// What is wrong with the record, which is never `NoMemory`.
+    /// What is wrong with the record; never `NoMemory`.
     pub fault: RowFault,
 }
 
@@ -21,12 +21,12 @@ pub struct BadRow {
 pub enum CsvFault {
     /// The first record that spells nothing.
     Row(BadRow),
-    /// A growth was refused. It may stand in place of any other answer.
+    /// Memory was refused. It may come in place of any other answer.
     NoMemory,
 }
 
-/// What was read of the record with the number `at`, counted from 1, or its fault with the number
-/// beside it. Want of memory is reported exactly where the reader of the record reported it.
+/// What was read from the record with the number `at`, counted from 1, or its fault with that
+/// number. `NoMemory` comes exactly if the reader of the record reported it.
 pub fn told_of_record<T>(at: usize, read: Result<T, RowFault>) -> Result<T, CsvFault>
     ensures { result ≡ told_at at read }
 {
@@ -59,8 +59,8 @@ impl<T: Drop> From<AllocFailed<T>> for CsvFault {
     }
 }
 
-/// Writes a bad record's number and its fault, with the field that this names if any, as
-/// `record 4: Number 3` or `record 4: Count`. Both count from 1.
+/// Writes a bad record's number and its fault, with the fault's field if it names one, as `record
+/// 4: Number 3` or `record 4: Count`. Records and fields are counted from 1.
 impl fmt::Display for BadRow {
     fn fmt<W: fmt::Write>(&self, f: &mut fmt::Formatter<W>) -> fmt::Result {
         write!(f, "record {}: {}", self.at, self.fault.name())?;

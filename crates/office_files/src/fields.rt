@@ -8,7 +8,7 @@ use csv::ByteRecord;
 use signal_records::NoMemory;
 use std::alloc::Global;
 
-/// The fields of a record, in their order. `NoMemory` means that a growth was refused.
+/// The fields of a record, in their order.
 pub fn fields_in<'a>(alloc: Global, row: &'a ByteRecord) -> Result<Vec<&'a [u8]>, NoMemory>
     ensures { IfOk result (λ fields. texts fields.items ≡ fields_of row.now) }
 {

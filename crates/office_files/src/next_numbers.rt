@@ -5,7 +5,7 @@ use signal_records::RecordNo;
 use std::alloc::AllocError;
 use std::fmt::Write;
 
-/// The number after the last of some records, which ascend; none where that is 999999.
+/// The number after the last of some records, which ascend; none if the last is 999999.
 fn next_number<T: Placed>(records: &[T]) -> Option<RecordNo> {
     let last = match records.last() {
         Some(record) => record.place(),
@@ -14,7 +14,7 @@ fn next_number<T: Placed>(records: &[T]) -> Option<RecordNo> {
     RecordNo::new(last.saturating_add(1))
 }
 
-/// Appends a next free number, or `none` where there is none.
+/// Appends a next free number, or `none` if there is none.
 fn push_next(text: &mut String, next: Option<RecordNo>) -> Result<(), AllocError> {
     match next {
         Some(number) => write!(text, "{}", number.get()),
@@ -23,8 +23,8 @@ fn push_next(text: &mut String, next: Option<RecordNo>) -> Result<(), AllocError
 }
 
 /// Appends the next free numbers of an inspection and of an order of a cabinet, as `next free
-/// numbers: inspection 5, order 3`: each is one more than the greatest there is, 1 where there is
-/// none, and `none` where the greatest is 999999, the last. The error is want of memory.
+/// numbers: inspection 5, order 3`: each is one more than the greatest, 1 if there is none yet, and
+/// `none` if the greatest is 999999, the last.
 pub fn push_next_numbers(text: &mut String, view: &CabinetView) -> Result<(), AllocError> {
     text.push_str("next free numbers: inspection ")?;
     push_next(text, next_number(view.inspections.as_slice()))?;

@@ -9,8 +9,8 @@ use signal_records::{InterId, NoMemory};
 use std::alloc::{AllocError, Global};
 use std::fmt::Write;
 
-/// Appends the day on which an inspection fell due, as `YYYY-MM-DD`, or `never` and five spaces
-/// where there never was one: ten places.
+/// Appends the day on which an inspection fell due, as `YYYY-MM-DD`, or `never` and five spaces if
+/// there never was one: ten bytes.
 fn push_due(text: &mut String, due: &Option<Date>) -> Result<(), AllocError>
     ensures { OnOk result (string_bytes text.new ≡ string_bytes text.old ++ due_written due.now) }
 {
@@ -20,7 +20,7 @@ fn push_due(text: &mut String, due: &Option<Date>) -> Result<(), AllocError>
     }
 }
 
-/// Appends an intersection's number, 1 to 9999, at the right of four places.
+/// Appends an intersection's number, 1 to 9999, right-aligned in four places.
 fn push_id(text: &mut String, id: InterId) -> Result<(), AllocError>
     ensures { OnOk result (string_bytes text.new ≡ string_bytes text.old
         ++ right_aligned 4 (decimal id)) }
@@ -43,8 +43,6 @@ fn push_line(text: &mut String, row: &OverdueRow) -> Result<(), AllocError>
 /// The report of the intersections that are overdue on a day, in UTF-8: a heading with the day, a
 /// line for each, in the order of the rows, with its number, the day on which its inspection fell
 /// due or `never`, and its name, and a line with their count. A day is spelt `YYYY-MM-DD`.
-///
-/// `NoMemory` means that a growth was really refused.
 pub fn overdue_text(alloc: Global, day: Day, rows: &[OverdueRow]) -> Result<Vec<u8>, NoMemory>
     ensures { IfOk result (λ text. text.items ≡ overdue_report day rows.now) }
 {

@@ -9,8 +9,7 @@ use crate::fault::CsvFault;
 use signal_records::TimingSet;
 use std::alloc::Global;
 
-/// The plan that the changes of a CSV file make of the empty set, or the first bad record.
-/// `NoMemory` means that a growth was refused.
+/// The plan that the changes of a CSV file make from the empty set, or the first bad record.
 pub fn read_plan_csv(alloc: Global, bytes: &[u8]) -> Result<TimingSet, CsvFault>
     ensures plan { IfOk result (IsPlan bytes.now) }
     ensures fault { IfErr result (λ fault. fault ≢ CsvFault.NoMemory →

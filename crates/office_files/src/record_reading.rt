@@ -107,8 +107,8 @@ fn delivery(alloc: Global, fields: &[&[u8]]) -> Result<RecordCommand, RowFault>
     })
 }
 
-/// The command that the fields of a record spell, or the first fault: of the kind, then of how many
-/// fields there are, then of the fields from left to right.
+/// The command that the fields of a record spell, or the first fault: of the kind, then of the
+/// number of fields, then of the fields from left to right.
 #[tactic(auto, unfolding(crate::specs::RecordReading::record_at))]
 pub(crate) fn read_record(alloc: Global, fields: &[&[u8]]) -> Result<RecordCommand, RowFault>
     ensures { Gives result (record_at (texts fields.now)) }

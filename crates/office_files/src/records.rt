@@ -10,8 +10,8 @@ use csv::{ByteRecord, Error, ReaderBuilder};
 use signal_records::NoMemory;
 use std::alloc::Global;
 
-/// The records of a CSV file, in order, of which none is a header and which may differ in length.
-/// A byte order mark is taken off. `NoMemory` means that a growth was refused.
+/// The records of a CSV file, in order. No record is a header, and records may differ in length. A
+/// byte order mark is taken off.
 pub fn read_records(alloc: Global, text: &[u8]) -> Result<Vec<ByteRecord>, NoMemory>
     ensures { IfOk result (λ records. map fields_of records.items ≡ csv_records text.now) }
 {
@@ -26,9 +26,9 @@ pub fn read_records(alloc: Global, text: &[u8]) -> Result<Vec<ByteRecord>, NoMem
     Ok(records)
 }
 
-/// Keeps a record that was read, or tells want of memory. The reader of a slice stops only where
+/// Keeps a record that was read, or reports want of memory. The reader of a slice stops only if
 /// memory runs out: a slice can't fail to be read, and records may differ in length. So want of
-/// memory is told only where the reader stopped, or where there was no room left.
+/// memory is reported only if the reader stopped, or if there was no room left.
 fn keep(records: &mut Vec<ByteRecord>, read: Result<ByteRecord, Error>) -> Result<(), NoMemory>
     requires { IfErr read (λ error. stops_reader (error_kind error) ≡ true) }
     ensures kept { IfOk result (λ _. (found : Record)

@@ -23,7 +23,7 @@ pub(crate) trait CsvRow: Sized + Drop {
 }
 
 /// The values that the records of a CSV file spell, in order, or the first record that spells none,
-/// counted from 1. `NoMemory` may stand in place of either.
+/// counted from 1. `NoMemory` may come in place of either.
 pub(crate) fn read_rows<T: CsvRow>(alloc: Global, text: &[u8]) -> Result<Vec<T>, CsvFault>
     ensures rows { IfOk result (λ rows. csv_rows T.reading (csv_records text.now) ≡ Ok rows.items) }
     ensures fault { IfErr result (λ fault. fault ≢ CsvFault.NoMemory →

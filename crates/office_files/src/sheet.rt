@@ -10,7 +10,7 @@ use signal_records::{InterId, NoMemory, Ped, Phase, PhaseNo, Row, TimingSet, Wor
 use std::alloc::Global;
 use std::fmt::Write;
 
-/// Appends the six columns of a pedestrian part, or a dash in each where a phase has none.
+/// Appends the six columns of a pedestrian part, or a dash in each if the phase has none.
 fn push_ped(text: &mut String, ped: &Option<Ped>) -> Result<(), NoMemory>
     ensures { OnOk result (string_bytes text.new ≡ string_bytes text.old ++ ped_columns ped.now) }
 {
@@ -25,7 +25,7 @@ fn push_ped(text: &mut String, ped: &Option<Ped>) -> Result<(), NoMemory>
     push_number(text, ped.lead.get())
 }
 
-/// Appends the columns of a phase before those of its pedestrian part. Tenths have a point.
+/// Appends the columns of a phase before its pedestrian part's. Tenths have a point.
 fn push_intervals(text: &mut String, p: PhaseNo, phase: &Phase) -> Result<(), NoMemory>
     ensures { OnOk result (string_bytes text.new ≡ string_bytes text.old
         ++ interval_columns p phase.now) }
@@ -169,11 +169,10 @@ fn push_title(
 }
 
 /// The timing sheet of an intersection, in UTF-8: its number, name and revision, and then its
-/// phases, sequences, splits and patterns, a line for each row in key order. A number stands at the
-/// right of six places, tenths with a point, and each number of a list after a space. A phase
-/// without a pedestrian part has a dash in each of its six columns, and an empty list is a dash.
-///
-/// `NoMemory` means that a growth was refused.
+/// phases, sequences, splits and patterns, a line for each row in key order. A number is
+/// right-aligned in six places, tenths with a point, and each number of a list follows a space. A
+/// phase without a pedestrian part has a dash in each of its six columns, and an empty list is a
+/// dash.
 pub fn timing_sheet(
     alloc: Global,
     id: InterId,

@@ -2,7 +2,7 @@
 
 use signal_records::state::{Holder, Stage};
 
-/// The word for the state of an intersection's transaction, by who holds its draft: `normal` where
+/// The word for the state of an intersection's transaction, by who holds its draft: `normal` if
 /// nobody does, else `transaction`, `verify` or `done`.
 pub fn state_word(holder: &Option<Holder>) -> &'static str {
     let Some(holder) = holder else {

@@ -38,9 +38,9 @@ impl CsvRecord for Row {
     }
 }
 
-/// The CSV file of a timing set, in UTF-8: a record of the fields of each row, in key order, with a
-/// line feed after it. `read_timing_csv` reads it as changes that put these rows, which make the
-/// set of the empty one. `NoMemory` means that a growth was refused.
+/// The CSV file of a timing set, in UTF-8: a record with the fields of each row, in key order, with
+/// a line feed after it. `read_timing_csv` reads it as changes that put these rows, which turn the
+/// empty set into this one.
 pub fn timing_csv(alloc: Global, set: &TimingSet) -> Result<Vec<u8>, NoMemory>
     ensures text { IfOk result (λ text. text.items ≡ timing_csv_text set.now) }
     ensures utf8 { IfOk result (λ text. IsUtf8 text.items) }

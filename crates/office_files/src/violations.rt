@@ -9,7 +9,7 @@ use std::alloc::Global;
 use std::fmt::Write;
 
 /// A line for each violation, in order, as `pattern 1 V13`, or the one line `no violations`. Each
-/// line ends in a line feed. `NoMemory` means that a growth was refused.
+/// line ends in a line feed.
 pub fn violation_text(alloc: Global, violations: &[Violation]) -> Result<Vec<u8>, NoMemory>
     ensures { IfOk result (λ text. text.items ≡ violations_text violations.now) }
 {

@@ -1,4 +1,4 @@
-//! CSV files out of values.
+//! Writes values into CSV files.
 
 ghost use Rattle.std.specs.Prelude.{◌≡◌, ℕ, List, map, IfOk, OnOk, All};
 ghost use Rattle.csv.specs.Records.{fields_of};
@@ -23,7 +23,7 @@ pub(crate) trait CsvRecord {
 }
 
 /// The CSV file that has a record for each value, in order, as the crate `csv` writes it by
-/// default, except that records may differ in how many fields they have.
+/// default, except that records may differ in length.
 pub(crate) fn write_records<T: CsvRecord>(alloc: Global, values: &[T]) -> Result<Vec<u8>, NoMemory>
     ensures text { IfOk result (λ text. text.items ≡ csv_text (map T.spelling values.now)) }
     ensures within { OnOk result (All T.IsWithin values.now) }
@@ -33,7 +33,7 @@ pub(crate) fn write_records<T: CsvRecord>(alloc: Global, values: &[T]) -> Result
         .from_writer(Vec::new(alloc));
     for value in values {
         let record = value.record(alloc)?;
-        // A vector refuses to be written to for want of memory alone.
+        // Writing to a vector fails only for want of memory.
         let Ok(()) = writer.write_byte_record(&record) else {
             return Err(NoMemory);
         };
@@ -54,9 +54,7 @@ impl CsvRecord for ByteRecord {
 }
 
 /// The CSV file of these records, in order, as the crate `csv` writes it by default, except that
-/// records may differ in how many fields they have. Each ends with a line feed.
-///
-/// `NoMemory` means that a growth was really refused.
+/// records may differ in length. Each ends with a line feed.
 pub fn csv_file(alloc: Global, records: &[ByteRecord]) -> Result<Vec<u8>, NoMemory>
     ensures { IfOk result (λ text. text.items ≡ csv_text (map fields_of records.now)) }
 {

@@ -1,4 +1,4 @@
--- What is answered while the office can't be had.
+-- The answers while the office is unavailable.
 use Rattle.std.specs.Prelude.{◌≡◌, ℕ, List, [], ◌∷◌, ⊤}
 use Rattle.office_http.specs.Listening.{Connected, RunsBetween, ServesConnection}
 use Rattle.office_http_framing.specs.Protocol.{Protocol}
@@ -6,7 +6,7 @@ use Rattle.office_http_framing.specs.Stops.{Storage}
 use Rattle.office_http_responses.specs.Faults.{framing_fault_text}
 use Rattle.office_http_responses.specs.Unavailable.{unavailable_bytes}
 
--- the answers while the office can't be had: no request has a step, so that each is answered unavailable
+-- the answers while the office is unavailable: no request has a step, so that each is answered unavailable
 abbrev pub away_protocol : Protocol ⊤
 away_protocol = record {
   step = λ before request answer after. ⊥;

@@ -40,7 +40,7 @@ asked_in (request ∷ requests) = asked_of request ++ asked_in requests
 
 -- ---- their replies, and the answers
 
--- the answer tells the reply in the form that was asked for; or the reply is Unavailable, and the answer is
+-- the answer has the reply in the form that was asked for; or the reply is Unavailable, and the answer is
 -- that of 503
 abbrev pub TellsReply : Asked → Reply → List ℕ → Type 0
 TellsReply asked reply answer =
@@ -65,11 +65,11 @@ TellsReplies _ _ _ = ⊥
 
 -- ---- the laws
 
--- The office machine ran over the commands that the requests ask, and the answers tell its replies.
--- Each office on the way is sound, so that no committed set breaks a rule. Each committed set of
--- the last keeps the laws of the street, and is the draft as it stood just before its last accepted
--- commit, or what it was at the start. Orders and stock are what the accepted commands of the
--- register made of them; and an import that was accepted and is sent again adds nothing.
+-- The office machine ran over the commands that the requests ask, and the answers tell its replies. Each
+-- office on the way is sound, so that no committed set breaks a rule. Each committed set of the last keeps
+-- the laws of the street, and is the draft as it was just before its last accepted commit, or what it was
+-- at the start. Orders and stock are what the accepted commands of the register made of them; and an import
+-- that was accepted and is sent again adds nothing.
 pub record KeepsLaws
     (before : Office) (requests : List PlainRequest) (answers : List (List ℕ))
     (after : Office) : Type 0 where

@@ -49,7 +49,7 @@ connection_state reader writer it = record {
   ends = ends_of (reader it.reader) (writer it.writer);
 }
 
--- the state of a connection of the system, of which the bytes are not told
+-- the state of a connection of the system, whose bytes are not known
 abbrev pub system_state : {W : Type 0} → Connection ConnectionReader (ToWrite W) → ConnectionState
 system_state it =
     connection_state (λ reader. record { bytes = None; counts = reader.counts })
@@ -148,8 +148,8 @@ pub record Listening : Type 0 where
   pub returned : Option (List Ends)
   pub kept : Option ConnectionState
 
--- What a listener of the system tells: its counts, and the connection that it keeps. The system
--- does not tell what a connection gives and takes.
+-- What a listener of the system tells: its counts, and the connection that it keeps. What a
+-- connection gives and takes is not known.
 abbrev pub system_listening : ListenCounts → Option ConnectionState → Listening
 system_listening counts kept =
     record { counts = counts; given = None; returned = None; kept = kept }
@@ -206,8 +206,8 @@ EndsTurn left old new served (Err stop.NoMemory) =
     (0 < left) × (middle : Listening) × Exchanges old middle served
     × (same : ConnectionState) × Exchanges middle new (connection_between false same same ∷ [])
 
--- Of `count` connections so many are left after these parts, as each that was given back is served;
--- and why the turn ended.
+-- Of `count` connections `left` are left after these parts, since each that was given back is
+-- served; and why the turn ended.
 abbrev pub EndsListening : (count left : ℕ) → (old new : Listening) → List Connected
     → Result TurnEnd ServeStop → Type 0
 EndsListening count left old new served result =
@@ -221,7 +221,7 @@ ServesAsMany count served result =
 
 -- ---- what was done
 
--- a part of a stream that ends so is to be served on
+-- whether a stream is to be served on after a part with this end
 abbrev pub is_pause : PartEnd → Bool
 is_pause part.Ended = false
 is_pause part.GaveWay = false
@@ -238,14 +238,14 @@ RunsBetween Machine State Stored =
     (first : Machine) (held : Stored) (before : State) (last : Machine) (kept : Stored)
     (after : State) → Runs
 
--- the machine ran over them
+-- the machine ran over the requests and gave these answers
 abbrev pub ran_by : {Machine State Stored : Type 0} →
     Protocol State → Storage Machine State Stored → RunsBetween Machine State Stored
 ran_by protocol storage first held before last kept after =
     Ran protocol storage (storage.may_leave first) (moment_of storage first held before)
     last kept after
 
--- the office served them, by its laws
+-- the office served the requests with these answers, by its laws
 abbrev pub served_by : {Shelf : Type 0} →
     Storage Shelf Office Content → RunsBetween Shelf Office Content
 served_by storage first held before last kept after =
@@ -258,9 +258,9 @@ pub record AsksConnection (limit : ℕ) (held rest : List ℕ) (start end : Told
   pub reads : end.counts.calls + length held
       ≤ start.counts.calls + longest_request * limit + length rest + 1
 
--- A part of a connection was served, between these two states of it, as `serve_buffered` says: of
--- its requests and their answers this is so. A fault of the ends is reported by them. It goes on if
--- the part paused, with as many requests fewer as were answered.
+-- A part of a connection was served, between these two states of it, as `serve_buffered` says, and
+-- `runs` holds of its requests and their answers. A fault of the ends is reported by them. It goes
+-- on if the part paused, with as many requests fewer as were answered.
 pub record ServesConnection
     {Machine State Stored : Type 0} (protocol : Protocol State)
     (runs : RunsBetween Machine State Stored) (first : Machine) (held : Stored) (before : State)

@@ -18,7 +18,8 @@ use Rattle.office_http_responses.specs.Faults.{ask_fault_text, framing_fault_tex
 use Rattle.office_http_requests.specs.declared.command.Asked.{Asked}
 use Rattle.office_http_requests.specs.declared.fault.AskFault.{AskFault}
 
--- the command takes its step of the office machine, and the answer tells its reply in the form that was asked for
+-- the command takes its step of the office machine, and the answer has its reply in the form that
+-- was asked for
 pub record AnswersAsked (before : Office) (asked : Asked) (answer : List ℕ) (after : Office) : Type 0 where
   pub reply : Reply
   pub step : answered before asked.command ≡ (reply, after)

@@ -1,4 +1,4 @@
-//! Whether someone else wants the file of the office: who does has a lock on the turn file.
+//! Whether another run wants the file of the office: such a run has a lock on the turn file.
 
 use libc::types::timespec;
 use std::fs::{File, TryLockError};
@@ -6,7 +6,7 @@ use std::mem;
 use std::os::unix::fs::MetadataExt;
 
 /// For how many milliseconds at least, and at most, a turn has the file before the first look,
-/// unless there is nothing to do; between them, for as long as the opening of the file took.
+/// unless there is nothing to do; between these, for as long as opening the file took.
 const LEAST_SLICE: i64 = 20;
 
 const LONGEST_SLICE: i64 = 500;
@@ -17,7 +17,7 @@ const PAUSE: i64 = 5;
 /// How many milliseconds pass between two looks at the name of the turn file.
 const NAME_PAUSE: i64 = 1_000;
 
-/// For how many milliseconds at most clients are answered while the file can't be had.
+/// For how many milliseconds at most clients are answered while the file is unavailable.
 const LONGEST_AWAY: i64 = 500;
 
 /// The milliseconds of a clock that never goes back.
@@ -33,7 +33,7 @@ fn now() -> i64 {
     seconds.wrapping_add(time.tv_nsec / 1_000_000)
 }
 
-/// Whether someone else has a lock on the file.
+/// Whether another run has a lock on the file.
 fn is_locked(file: &File) -> bool {
     match file.try_lock_shared() {
         Ok(()) => {
@@ -45,7 +45,7 @@ fn is_locked(file: &File) -> bool {
     }
 }
 
-/// Whether the file was deleted: whoever wants the office then has a lock on another one.
+/// Whether the file was deleted: a run that wants the office then has a lock on another one.
 fn is_deleted(file: &File) -> bool {
     match file.metadata() {
         Ok(found) => found.nlink() == 0,
@@ -53,18 +53,18 @@ fn is_deleted(file: &File) -> bool {
     }
 }
 
-/// Who may want the file of the office.
+/// Which other run may want the file of the office.
 #[derive(Drop)]
 enum Rival {
     Nobody,
     /// Whoever has a lock on this file.
     Locking(File),
-    /// The file is already somebody else's.
+    /// One that has the file already.
     Owner,
 }
 
-/// A turn of who has the file of the office: where it sees that someone else waits for the file,
-/// and when it looks.
+/// A turn with the file of the office: how it sees that another run waits for the file, and when it
+/// looks.
 #[derive(Drop)]
 pub struct Asking {
     rival: Rival,
@@ -88,7 +88,7 @@ impl Asking {
         }
     }
 
-    /// A turn for which the file of the office is opened from now on. Without a turn file nobody
+    /// A turn for which the file of the office is about to be opened. Without a turn file, no run
     /// can be seen to want it.
     pub fn opening(turn_file: Option<File>) -> Asking {
         let Some(file) = turn_file else {
@@ -102,7 +102,7 @@ impl Asking {
         }
     }
 
-    /// What goes on while the file can't be had: it stops where nothing is to be done, or after
+    /// A turn while the file is unavailable: it ends when there is nothing to do, or after
     /// `LONGEST_AWAY`.
     pub(crate) fn away() -> Asking {
         Asking {
@@ -122,7 +122,7 @@ impl Asking {
         self.next_name = time.wrapping_add(NAME_PAUSE);
     }
 
-    /// Hears that a request was answered as unavailable: the turn ends at the next look, so that
+    /// Learns that a request was answered as unavailable: the turn ends at the next look, so that
     /// the file is opened anew.
     pub(crate) fn note_failure(&mut self) {
         self.has_failed = true;
@@ -138,7 +138,7 @@ impl Asking {
         !matches!(self.rival, Rival::Nobody)
     }
 
-    /// Whether the turn is to end, where there is nothing to do.
+    /// Whether the turn is to end, if there is nothing to do.
     pub(crate) fn looks(&mut self) -> bool {
         let Asking {
             rival,
@@ -162,7 +162,7 @@ impl Asking {
         is_deleted(file)
     }
 
-    /// Whether the turn is to end, where there is more to do: it looks only now and then.
+    /// Whether the turn is to end, if there is more to do: it looks only now and then.
     pub(crate) fn looks_in_time(&mut self) -> bool {
         if !self.may_be() {
             return false;

@@ -1,11 +1,12 @@
-//! What is answered while the file of the office can't be had: that it is unavailable.
+//! The answers while the file of the office can't be opened: that it is unavailable.
 
 use office_http_framing::front::{Fault, Request};
 use office_http_framing::machine::{Answer, Machine, Unavailable};
 use office_http_responses::{framing_fault_answer, unavailable};
 use std::alloc::{AllocError, Global};
 
-/// The office while its file can't be had: no request has a step, and each is answered unavailable.
+/// The office while its file can't be opened: no request has a step, and each is answered
+/// unavailable.
 #[derive(Drop)]
 pub(crate) struct Away;
 

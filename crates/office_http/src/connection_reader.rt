@@ -1,5 +1,5 @@
-//! The reader of a connection, which waits for its client, and sees meanwhile whether the
-//! connection is to be left.
+//! The reader of a connection. It waits for its client, and looks meanwhile whether to leave the
+//! connection.
 
 ghost use Rattle.std.specs.Prelude.{◌≡◌, ◌<◌, length};
 ghost use Rattle.std.specs.Io.{ReadsAtMost};
@@ -21,7 +21,7 @@ const LONGEST_WAIT: i32 = 30_000;
 /// How many milliseconds a new connection has for its first bytes, even while another client waits.
 const FIRST_WAIT: i32 = 100;
 
-/// How many milliseconds are waited at a time, where someone may want the file of the office.
+/// How many milliseconds to wait at a time, if another run may want the file of the office.
 pub(crate) const SLICE: i32 = 20;
 
 /// A question to the system, for `poll`: whether a read of this socket returns at once.
@@ -34,7 +34,7 @@ pub(crate) fn readiness(socket: RawFd) -> pollfd {
 }
 
 /// The reader of a connection. Between two requests it gives way to another client that waits at
-/// the listener; and it pauses, also within a request, where someone waits for the file of the
+/// the listener; and it pauses, also within a request, when another run waits for the file of the
 /// office.
 #[derive(Drop)]
 pub struct ConnectionReader {
@@ -43,11 +43,11 @@ pub struct ConnectionReader {
     listener: RawFd,
     /// The turn in which the connection is served.
     asking: Asking,
-    /// What was to be done next when that was last asked.
+    /// The next step, as the last `wait` got it.
     next: NextStep,
-    /// How many milliseconds the next bytes were waited for.
+    /// For how many milliseconds it has waited for the next bytes.
     waited: i32,
-    /// Why the next read fails, where the wait before it did.
+    /// Why the next read fails, if the wait before it failed.
     failure: Option<ErrorKind>,
     pub counts: Counts,
 }
@@ -90,8 +90,8 @@ impl ConnectionReader {
         stream
     }
 
-    /// Waits for the connection, or between two requests for another client too, for at most so
-    /// many milliseconds, and says which is so; `None` where the wait itself failed.
+    /// Waits for at most `longest` milliseconds until the connection can be read or, if `is_next`,
+    /// another client waits, and gives which is so; `None` if the wait itself failed.
     fn ready_within(&mut self, is_next: bool, longest: i32) -> Option<Ready>
         ensures { self.new.counts ≡ self.old.counts }
     {
@@ -113,8 +113,8 @@ impl ConnectionReader {
         })
     }
 
-    /// How many milliseconds it waits before it looks whether the connection is to be left; and
-    /// whether other clients are looked at meanwhile.
+    /// How many milliseconds to wait before the next look whether to leave the connection; and
+    /// whether to watch for other clients meanwhile.
     fn slice(&self, is_next: bool) -> (i32, bool) {
         let is_first = self.counts.calls == 0 && self.waited < FIRST_WAIT;
         let longest = if is_first { FIRST_WAIT } else { LONGEST_WAIT };
@@ -127,7 +127,7 @@ impl ConnectionReader {
         (slice, is_next && !is_first)
     }
 
-    /// Waits until the connection can be read, or is to be left. Where that takes longer than
+    /// Waits until the connection can be read, or is to be left. If that takes longer than
     /// `LONGEST_WAIT`, or the wait fails, the next read fails.
     fn await_bytes(&mut self, is_next: bool) -> Wait
         ensures { self.new.counts ≡ self.old.counts }
@@ -156,8 +156,8 @@ impl ConnectionReader {
         Wait::GoOn
     }
 
-    /// Waits, while the file of the office is someone else's, until it is needed for the next step.
-    /// The time counts as time in which nothing came.
+    /// Waits, while another run may have the file of the office, until it is needed for the next
+    /// step. The time counts as time in which nothing came.
     pub(crate) fn await_need(&mut self)
         ensures { self.new.counts ≡ self.old.counts }
     {
@@ -199,7 +199,7 @@ impl Source for ConnectionReader {
             NextStep::Answer if self.asking.looks_in_time() => Wait::Pause,
             NextStep::Answer => Wait::GoOn,
             NextStep::ReadNext => self.await_bytes(true),
-            // Where nobody can want the file, the read waits itself.
+            // If no run can want the file, the read itself waits.
             NextStep::ReadMore if !self.asking.may_be() => Wait::GoOn,
             NextStep::ReadMore => self.await_bytes(false),
         }

@@ -12,8 +12,8 @@ const PIECES: usize = 64;
 /// How many bytes of what a client still sends are taken at most in one piece.
 const PIECE_LEN: usize = 4_096;
 
-/// Takes what has come over a connection that was ended, and lets it go: a stream that is closed
-/// with unread bytes would be reset, and its client might lose the last answer.
+/// Reads and drops what has come over a connection that was ended: a stream that is closed with
+/// unread bytes would be reset, and its client might lose the last answer.
 fn discard(stream: &mut TcpStream) {
     if stream.set_nonblocking(true).is_err() {
         return;

@@ -45,9 +45,9 @@ pub struct FromListener {
     listener: TcpListener,
     counts: ListenCounts,
     ended: Ended,
-    /// The turn in which connections are served; the reader of one has it while it is served.
+    /// The turn in which connections are served. While one is served, its reader has the turn.
     asking: Asking,
-    /// The connection that was not served to its end.
+    /// A connection that was not served to its end yet.
     kept: Option<Accepted>,
 }
 
@@ -81,7 +81,7 @@ impl FromListener {
         self.counts
     }
 
-    /// Begins a turn, for which the file of the office was opened: until it ends someone else may
+    /// Begins a turn, for which the file of the office was opened: until it ends another run may
     /// want the file.
     pub fn begin_turn(&mut self, asking: Asking)
         ensures { self.new ≡ self.old }
@@ -90,15 +90,15 @@ impl FromListener {
         self.asking.begin();
     }
 
-    /// Goes on while the file of the office can't be had: it gives no connection for which it would
-    /// have to wait.
+    /// Goes on while the file of the office is unavailable: it gives no connection for which it
+    /// would have to wait.
     pub fn go_away(&mut self)
         ensures { self.new ≡ self.old }
     {
         self.asking = Asking::away();
     }
 
-    /// Waits, while the file of the office is someone else's, until it is needed: the connection
+    /// Waits, while another run may have the file of the office, until it is needed: the connection
     /// that is kept has sent something, or has waited long enough, or another client waits.
     pub fn await_need(&mut self) {
         match &mut self.kept {
@@ -110,8 +110,8 @@ impl FromListener {
     }
 }
 
-/// Waits for a client of this listener in this turn, and says whether one is there; if not, the
-/// turn is to end.
+/// Waits for a client of this listener in this turn, and gives whether one came; if not, the turn
+/// is to end. If no run can want the file, it does not wait, since accepting does.
 fn await_client(listener: &TcpListener, asking: &mut Asking) -> bool {
     if !asking.may_be() {
         return true;
@@ -131,9 +131,9 @@ fn await_client(listener: &TcpListener, asking: &mut Asking) -> bool {
 }
 
 /// The connection of this stream that this listener accepted. No read and no write waits longer
-/// than `LONGEST_WAIT`. Each answer is sent at once, however short; where the system refuses that,
-/// it may hold an answer back for a moment. The error is the system's, which set no wait or gave no
-/// second handle.
+/// than `LONGEST_WAIT`. Each answer is sent at once, however short; if the system refuses that, it
+/// may hold an answer back for a moment. The error is the system's, if it sets no time limit or
+/// gives no second handle.
 fn open_ends(stream: TcpStream, listener: RawFd) -> io::Result<Accepted>
     ensures { IfOk result (λ it. IsNew (system_state it)) }
 {
@@ -202,9 +202,9 @@ impl Listen for FromListener {
 }
 
 /// Serves `count` connections of a listener of the system, one after the other, each at most 10,000
-/// requests. A connection whose ends fail counts too. `Accept` where one could not be accepted, or
-/// the system gives no second handle of the listener; `NoMemory` where the buffer of one was
-/// refused. Connections that were ended are closed at the end.
+/// requests. A connection whose ends fail counts too. `Accept` if one could not be accepted, or the
+/// system gives no second handle of the listener; `NoMemory` if the buffer of one was refused.
+/// Connections that were ended are closed at the end.
 pub fn serve_on<S: Shelf>(
     alloc: Global,
     listener: &TcpListener,
@@ -225,7 +225,7 @@ pub fn serve_on<S: Shelf>(
     let mut left = count;
     match serve_each(alloc, &mut FromListener::new(listener), &mut left, office)? {
         TurnEnd::Served => Ok(()),
-        // Nobody can want a file of which this listener knows nothing.
+        // This listener has no turn file, so no run can be seen to want the file.
         TurnEnd::Asked => Err(ServeStop::Accept),
     }
 }

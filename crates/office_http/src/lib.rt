@@ -1,8 +1,8 @@
 //! The office behind HTTP/1.1: bytes in, bytes out.
 //!
-//! The framing of requests and the engine stand in `office_http_framing`, requests as commands in
-//! `office_http_requests`, replies as answers in `office_http_responses`; public names of theirs
-//! are handed on here.
+//! The framing of requests and the engine are in `office_http_framing`, the reading of requests as
+//! commands in `office_http_requests`, the writing of replies as answers in
+//! `office_http_responses`; some of their public names are exported again here.
 #![tactic(auto)]
 
 mod asking;

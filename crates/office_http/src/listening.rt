@@ -36,7 +36,7 @@ use std::io;
 /// The most requests of one connection.
 const CONNECTION_LIMIT: u32 = 10_000;
 
-/// How the calls of a listener went. Each count stays at `u64::MAX` once it is there.
+/// How the calls of a listener went. Each count stays at `u64::MAX` once it reaches that.
 #[derive(Clone, Copy, Default)]
 pub struct ListenCounts {
     /// How many calls gave a new connection.
@@ -91,13 +91,13 @@ impl<R, W> Connection<R, W> {
 pub enum TurnEnd {
     /// As many connections were served as were asked for.
     Served,
-    /// Someone else waits for the file of the office. A connection that was not served to its end
-    /// is kept.
+    /// The turn is to end, as when another run waits for the file of the office. A connection that
+    /// was not served to its end is kept.
     Asked,
 }
 
-/// Where connections come from, seen as the counts of its calls, as the connection that it keeps
-/// from one turn to the next and, where they are known, as the ends of the connections that it gave
+/// Where connections come from. Contracts see the counts of its calls, the connection that it keeps
+/// from one turn to the next and, where they are known, the ends of the connections that it gave
 /// and of those that it got back, as they were then.
 pub trait Listen {
     ghost use Rattle.std.specs.Prelude.{[], ◌∷◌, Some};
@@ -110,9 +110,9 @@ pub trait Listen {
     // How the listener's calls went so far, what it gave and got back, and what it keeps.
     ghost told: { Self → Listening };
 
-    /// Gives the connection that was kept, or waits for a new one, of which nothing was read or
-    /// written yet. There is none where someone else waits for the file of the office. An error
-    /// means that none could be accepted, and counts as a failure.
+    /// Gives the connection that was kept, or waits for a new one, on which nothing was read or
+    /// written yet. It gives none if the turn is to end, as when another run waits for the file of
+    /// the office. An error means that none could be accepted, and counts as a failure.
     fn accept(&mut self) -> io::Result<Option<Connection<Self::Reader, Self::Writer>>>
         ensures { Gives (connection_state Self.Reader.told Self.Writer.told) result
             (told self.old) (told self.new) };
@@ -130,7 +130,7 @@ pub trait Listen {
             (told self.old).kept };
 }
 
-/// Why a listener was not served to the last connection.
+/// Why not all connections of a listener were served.
 #[derive(Clone, Copy)]
 pub enum ServeStop {
     /// The next connection could not be accepted.
@@ -172,9 +172,9 @@ fn take_buffer(alloc: Global, place: &mut Option<Buffer>) -> Result<Buffer, Allo
     }
 }
 
-/// Serves a part of a connection by a machine: on from what is buffered, and at most as many
-/// requests as are left. Where its ends fail it ends, which is no error. Says whether it goes on
-/// with another part. The error means that its buffer was refused.
+/// Serves a part of a connection by a machine: first from what is buffered, and at most as many
+/// requests as are left. If its ends fail the connection ends, which is no error. Gives whether it
+/// goes on with another part. The error means that its buffer was refused.
 fn serve_connection<Tools, M: Machine<Tools>, R: Source, W: Sink>(
     alloc: Global,
     machine: &mut M,
@@ -190,7 +190,7 @@ fn serve_connection<Tools, M: Machine<Tools>, R: Source, W: Sink>(
         machine.old held before machine.new kept after
         (connection_between goes_on (connection_state R.told W.told connection.old)
         (connection_state R.told W.told connection.new))) }
-    // Where its buffer was refused, nothing was touched.
+    // If its buffer was refused, nothing was touched.
     ensures untouched { OnErr result (
         (connection_state R.told W.told connection.new
         ≡ connection_state R.told W.told connection.old)
@@ -217,8 +217,8 @@ fn serve_connection<Tools, M: Machine<Tools>, R: Source, W: Sink>(
 
 /// Serves `left` connections by a machine, one after the other, each at most 10,000 requests, and
 /// counts `left` down. A connection whose ends fail counts too, and the next one follows it. It
-/// stops where the listener gives none, or a connection pauses: that one is kept by the listener.
-/// `Accept` where the next connection could not be accepted, `NoMemory` where the buffer of one was
+/// stops when the listener gives none, or when a connection pauses, which the listener keeps.
+/// `Accept` if the next connection could not be accepted, `NoMemory` if the buffer of one was
 /// refused.
 fn serve_by<Tools, M: Machine<Tools>, L: Listen>(
     alloc: Global,
@@ -263,10 +263,10 @@ fn serve_by<Tools, M: Machine<Tools>, L: Listen>(
 
 /// Serves `left` connections in a turn, one after the other, each at most 10,000 requests, and
 /// counts `left` down. A connection whose ends fail counts too, and the next one follows it. The
-/// turn ends where someone else waits for the file of the office. A connection that is not at its
-/// end then is kept by the listener, and the next turn serves it on from there, also within a
-/// request. `Accept` where the next connection could not be accepted, `NoMemory` where the buffer
-/// of one was refused.
+/// turn ends when another run waits for the file of the office. The listener keeps a connection
+/// that is not at its end then, and the next turn goes on from there, also within a request.
+/// `Accept` if the next connection could not be accepted, `NoMemory` if the buffer of one was
+/// refused.
 pub fn serve_each<S: Shelf, L: Listen>(
     alloc: Global,
     listener: &mut L,
@@ -277,8 +277,8 @@ pub fn serve_each<S: Shelf, L: Listen>(
     ensures honest { S.is_honest office.new → S.is_honest office.old }
 
     // Each connection that the listener gave was served part by part, as `serve_buffered` does,
-    // from its first call to its being given back, and no other one; and the listener tells how
-    // many it gave and got back, which one it keeps, and a failure where it is the reason.
+    // from its first call until it was given back, and no other one; and the listener says how many
+    // it gave and got back, which one it keeps, and that it failed, if that is the reason.
     ensures did { let storage = office_storage S.is_honest S.content S.written S.may_leave in
         (served : List Connected)
         × EndsListening left.old left.new (L.told listener.old) (L.told listener.new) served result
@@ -290,8 +290,8 @@ pub fn serve_each<S: Shelf, L: Listen>(
     serve_by(alloc, listener, left, office, &mut tools)
 }
 
-/// Answers the requests of connections while the file of the office can't be had: each that it is
-/// unavailable. Connections are given, counted and kept as by `serve_each`.
+/// Answers the requests of connections while the file of the office is unavailable, by saying so.
+/// Connections are given, counted and kept as by `serve_each`.
 pub fn answer_away<L: Listen>(
     alloc: Global,
     listener: &mut L,

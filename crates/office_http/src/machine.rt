@@ -34,9 +34,9 @@ impl StreamTools {
     }
 }
 
-/// The whole HTTP answer that tells a reply of the office, in this form; `Unavailable` where memory
-/// or the store was refused. It always tells that a stored row is no record (`Damaged`): that text
-/// takes no memory.
+/// The whole HTTP answer with a reply of the office, in this form; `Unavailable` if memory or the
+/// store was refused. `Damaged`, that a stored row is no record, is always answered: its text takes
+/// no memory.
 fn answer_to(alloc: Global, reply: &Reply, form: Form) -> Result<Answer, Unavailable>
     ensures told { IfOk result (λ _. reply.now ≢ Reply.Refused Refusal.Unavailable) }
     ensures text { IfOk result (λ answer. bytes_of answer ≡ answer_bytes reply.now form) }
@@ -53,7 +53,7 @@ fn answer_to(alloc: Global, reply: &Reply, form: Form) -> Result<Answer, Unavail
     }
 }
 
-/// The whole HTTP answer to a request that is no command: it tells why. `Unavailable` means that
+/// The whole HTTP answer to a request that is no command: it says why. `Unavailable` means that
 /// memory was refused.
 fn answer_fault(alloc: Global, fault: AskFault) -> Result<Answer, Unavailable>
     ensures { IfOk result (λ answer. (fault ≢ AskFault.NoMemory)

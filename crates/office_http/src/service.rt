@@ -27,7 +27,7 @@ use std::alloc::Global;
 ///
 /// The error is `Read` where the reader failed, `Write` where the writer failed or took no byte,
 /// and `NoMemory` where the buffer was refused, which is taken before anything is read. The reader
-/// is not asked to wait: a stream of which this is all is never left before its end.
+/// is not asked to wait: a whole stream is never left before its end.
 pub fn serve<S: Shelf, R: Source, W: Sink>(
     alloc: Global,
     office: &mut Office<S>,
@@ -57,10 +57,10 @@ pub fn serve<S: Shelf, R: Source, W: Sink>(
     // the street.
     ensures street { KeepsTheStreet }
 
-    // No call of an end failed or moved no byte but the last one of that end, as the result says.
+    // Only the last call of an end may have failed or moved no byte, as the result says.
     ensures fault { TellsFault (ends_of (R.told reader.old) (W.told writer.old))
         (ends_of (R.told reader.new) (W.told writer.new)) result }
-    // Where the buffer was refused nothing was touched, whatever the tables stood for.
+    // If the buffer was refused, nothing was touched, whatever the tables stood for.
     ensures untouched { IfErr result (λ why. why ≡ ServeFault.NoMemory →
         Untouched (ends_of (R.told reader.old) (W.told writer.old))
         (ends_of (R.told reader.new) (W.told writer.new)) office.old office.new) }
@@ -74,13 +74,13 @@ pub fn serve<S: Shelf, R: Source, W: Sink>(
     engine::serve(alloc, office, &mut tools, reader, writer, max_requests)
 }
 
-/// Serves a part of a stream, of which the buffer holds what was read before and not answered, as
-/// `serve` does. Before each answer and each read the reader is asked whether the stream is left
-/// there: it pauses, and the buffer keeps what was read and not answered; or it gives way to
-/// another client, between two requests. What follows is served by another call, over the same
+/// Serves a part of a stream as `serve` does, first from the buffer, which holds what was read
+/// before and not answered. Before each answer and each read it asks the reader whether to leave
+/// the stream there: to pause, so that the buffer keeps what was read and not answered, or, between
+/// two requests, to give way to another client. Another call serves what follows, over the same
 /// buffer, by an office that may have been closed and opened in between.
 ///
-/// The error is `Read` or `Write`, as of `serve`, and never `NoMemory`.
+/// The error is `Read` or `Write`, as for `serve`, and never `NoMemory`.
 pub fn serve_buffered<S: Shelf, R: Source, W: Sink>(
     alloc: Global,
     office: &mut Office<S>,
@@ -92,9 +92,9 @@ pub fn serve_buffered<S: Shelf, R: Source, W: Sink>(
     ensures clean { S.is_clean office.new → S.is_clean office.old }
     ensures honest { S.is_honest office.new → S.is_honest office.old }
 
-    // What `serve` says of its stream, of a part that begins with the bytes that are buffered. If
-    // the stream was left, all requests of the part were answered whole, and the buffer keeps what
-    // follows them; if it gave way, that is nothing.
+    // What `serve` ensures for its stream, for a part that begins with the bytes that are buffered.
+    // If the stream was left, all requests of the part were answered whole, and the buffer keeps
+    // what follows them; if it gave way, that is nothing.
     ensures did { let storage = office_storage S.is_honest S.content S.written S.may_leave in
         S.is_clean office.new →
         (before : OfficeState) (tables : Content) → KeepsState storage office.old tables before →
@@ -104,12 +104,12 @@ pub fn serve_buffered<S: Shelf, R: Source, W: Sink>(
         max_requests buffer.old buffer.new (ends_of (R.told reader.old) (W.told writer.old))
         (ends_of (R.told reader.new) (W.told writer.new)) result }
 
-    // No call of an end failed or moved no byte but the last one of that end, as the result says,
-    // and none where the stream was left.
+    // Only the last call of an end may have failed or moved no byte, as the result says, and none
+    // did if the stream was left.
     ensures fault { TellsPart (ends_of (R.told reader.old) (W.told writer.old))
         (ends_of (R.told reader.new) (W.told writer.new)) result }
     ensures asks { OnlyAsksAfter R.told max_requests buffer.old reader.old reader.new }
-    // Each read but one gives a byte at least.
+    // Each read but one gives at least one byte.
     ensures reads { (R.told reader.new).counts.calls + length buffer.old
         ≤ (R.told reader.old).counts.calls + longest_request * max_requests
         + length buffer.new + 1 }

@@ -37,7 +37,8 @@ Asks IsDue first (suc calls) given source =
     × IsDue held × NoneStops first.counts before.counts
     × OneRead before source piece × (given ≡ held ++ piece)
 
--- where these bytes had come before: the source was called only while a request was awaited, and not again after a call that failed or gave no byte
+-- if the bytes `come` had come before: the source was called only while a request was awaited, and
+-- not again after a call that failed or gave no byte
 abbrev pub OnlyAsksAfter : {Source : Type 0} → (Source → Told) → ℕ → List ℕ → Source → Source → Type 0
 OnlyAsksAfter told limit come first source =
     (calls : ℕ) × (given : List ℕ)

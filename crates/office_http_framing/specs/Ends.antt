@@ -33,7 +33,7 @@ call_counts_after outcome c = record {
 abbrev pub no_calls : Counts
 no_calls = record { calls = 0; failures = 0; empties = 0 }
 
--- a count rose, or it stands at its largest value and tells nothing
+-- a count rose, or it is at its largest value and shows nothing
 abbrev pub Rose : ℕ → ℕ → Type 0
 Rose old new = (old < new) ⊎ (count_limit ≤ new)
 
@@ -69,18 +69,19 @@ abbrev pub StopsAtOnce : {T E : Type 0} → Result T E → Counts → Counts →
 StopsAtOnce result old new =
     MatchResult result (λ _. NoneStops old new) (λ _. OneFails old new ⊎ OneIsEmpty old new)
 
--- a call between these counts failed, or answered 0 bytes, as far as a count at its largest value can tell
+-- a call between these counts failed, or answered 0 bytes, as far as a count at its largest value
+-- can show
 abbrev pub FailsOrGivesNone : Counts → Counts → Type 0
 FailsOrGivesNone old new = Rose old.failures new.failures ⊎ Rose old.empties new.empties
 
--- the sink took the bytes up to some place
+-- the sink took a front part of the bytes, which may be none or all
 pub record AppendsPart (old new : Option (List ℕ)) (bytes : List ℕ) : Type 0 where
   pub part : List ℕ
   pub rest : List ℕ
   pub front : bytes ≡ part ++ rest
   pub taken : Appends old new part
 
--- the sink took all the bytes, or on an error those up to some place
+-- the sink took all the bytes, or on an error a front part of them
 abbrev pub WritesOrBreaksOff : {T E : Type 0} → Result T E → Told → Told → List ℕ → Type 0
 WritesOrBreaksOff result old new bytes =
     MatchResult result (λ _. Appends old.bytes new.bytes bytes)

@@ -1,4 +1,4 @@
--- What stands at the front of the bytes of a stream: a whole request, a part of one, or a fault.
+-- What the bytes of a stream begin with: a whole request, a part of one, or a fault.
 use Rattle.std.specs.Prelude.{◌≡◌, ℕ, ◌+◌, ◌<◌, ◌≤◌, ◌⊎◌, Bool, ◌||◌, List, map, length, take, slice_range, Result, Ok, Err, ◌==◌}
 use Rattle.std.specs.List.{before_first}
 use Rattle.httparse.specs.Grammar.{RequestHead, print_request, ReadsRequest, HasNoRequest, MayBecomeRequest}
@@ -47,7 +47,7 @@ request_of head body = record {
   last = is_last head;
 }
 
--- the window begins with this whole head, of at most as many fields as there is room for
+-- the window begins with this whole head, which has at most `field_limit` fields
 pub record HasHead (bytes : List ℕ) (head : RequestHead) : Type 0 where
   pub rest : List ℕ
   pub reads : ReadsRequest (window bytes) head rest
@@ -67,14 +67,14 @@ pub record BeginsWithRequest (bytes : List ℕ) (request : PlainRequest) (len : 
   pub whole : len ≤ length bytes
   pub request_is : request ≡ request_of head (slice_range bytes (head_length head) len)
 
--- a head is there, and its body has not come whole
+-- a whole head has come, and its body has not come whole
 pub record AwaitsBody (bytes : List ℕ) : Type 0 where
   pub head : RequestHead
   pub size : ℕ
   pub framed : IsFramed bytes head (Ok size)
   pub short : length bytes < head_length head + size
 
--- no bytes can follow that make a head of at most as many fields as there is room for
+-- no bytes that follow can make a head of at most `field_limit` fields
 abbrev pub IsHopeless : List ℕ → Type 0
 IsHopeless bytes = RequestOverflows field_limit bytes
 
@@ -98,11 +98,11 @@ IsFaulty bytes fault.Length = HasFaultyFields bytes fault.Length
 IsFaulty bytes fault.BodyTooLarge = HasFaultyFields bytes fault.BodyTooLarge
 IsFaulty bytes fault.Coded = HasFaultyFields bytes fault.Coded
 
--- the request that a borrowed one shows
+-- a borrowed request as plain bytes
 abbrev pub plain : Request → PlainRequest
 plain r = record { method = r.method.now; path = r.path.now; body = r.body.now; last = r.last }
 
--- this is what stands at the front of the bytes
+-- this is what the bytes begin with
 abbrev pub IsFrontOf : List ℕ → Front → Type 0
 IsFrontOf bytes (front.Whole r len) = BeginsWithRequest bytes (plain r) len
 IsFrontOf bytes front.More = IsIncomplete bytes

@@ -1,5 +1,5 @@
--- How far the definitions of requests and faults fix what stands at the front of a stream's bytes,
--- and the list of its requests; and what two parts of a stream come to.
+-- How far the definitions of requests and faults fix what a stream's bytes begin with, and the list
+-- of its requests; and what two parts of a stream make together.
 use Rattle.std.specs.Prelude.{◌≡◌, ℕ, ◌+◌, ◌-◌, ◌⊎◌, List, ◌++◌, Result, Ok, Err}
 use Rattle.office_http_framing.specs.declared.engine.Part.{Part}
 use Rattle.office_http_framing.specs.declared.engine.PartEnd.TheVariants as part
@@ -17,8 +17,8 @@ pub record IsLeftOpen (bytes : List ℕ) : Type 0 where
   pub hopeless : IsHopeless (window bytes)
   pub unfinished : IsUnfinished (window bytes)
 
--- at the front of these bytes stands one thing: one request, or a part of one, or one fault; only
--- where httparse leaves it open may a fault stand there beside a part or another fault
+-- these bytes begin with one thing: one request, or a part of one, or one fault; only where
+-- httparse leaves it open may they begin with a fault and also with a part or another fault
 pub record HasOneFront (bytes : List ℕ) : Type 0 where
   pub requests : (r s : PlainRequest) (m n : ℕ)
       → BeginsWithRequest bytes r m → BeginsWithRequest bytes s n → (r ≡ s) × (m ≡ n)
@@ -36,13 +36,14 @@ HasOneList limit bytes =
     → AreRequests limit bytes requests ending → AreRequests limit bytes others other
     → requests ≡ others
 
--- where the first requests ran so, and then the second ones, all of them ran as the whole says
+-- if some requests ran as `first` says, and then more as `second` says, all of them ran as `whole`
+-- says
 abbrev pub RunsJoin : (first second whole : Runs) → Type 0
 RunsJoin first second whole =
     (requests more : List PlainRequest) (answers others : List (List ℕ))
     → first requests answers → second more others → whole (requests ++ more) (answers ++ others)
 
--- the outcome of a part, counted from a part of so many requests before it
+-- the outcome of a part, with the count of the requests of the part before it added
 abbrev pub after_requests : ℕ → Result Part ServeFault → Result Part ServeFault
 after_requests n (Ok it) = Ok (record { requests = n + it.requests; end = it.end })
 after_requests n (Err (stop.Read requests)) = Err (stop.Read (n + requests))

@@ -1,7 +1,7 @@
 -- The limits of a request, and the byte that ends its path.
 use Rattle.std.specs.Prelude.{ℕ}
 
--- in how many bytes from the front a head has to be whole
+-- a head has to be whole within this many bytes from the front
 abbrev pub head_limit : ℕ
 head_limit = 8192
 

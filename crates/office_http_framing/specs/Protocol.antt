@@ -10,9 +10,9 @@ abbrev pub bytes_of : Answer → List ℕ
 bytes_of (Written bytes) = bytes.items
 bytes_of (Fixed bytes) = bytes.now
 
--- The answers of a machine that means a state. By `step`, a request may get the answer and leave
--- the second state; `fault_text` answers a fault of the framing; `unavailable_text` says that
--- memory or the store was refused.
+-- The answers of a machine that has a state. By `step`, a request may get the answer and leave the
+-- second state; `fault_text` answers a fault of the framing; `unavailable_text` says that memory or
+-- the store was refused.
 pub record Protocol (State : Type 0) : Type 1 where
   pub step : State → PlainRequest → List ℕ → State → Type 0
   pub fault_text : Fault → List ℕ

@@ -57,7 +57,7 @@ told_requests (Err (stop.Write requests)) = requests
 told_requests (Err stop.NoMemory) = 0
 
 -- How the stream ended: all was answered; or the source failed; or the sink failed at the answer to
--- the last request, or at that to a fault; or nothing was begun, as memory was refused.
+-- the last request or to a fault; or nothing was begun, since memory was refused.
 abbrev pub EndsBy : {State : Type 0} →
     Protocol State → Result Served ServeFault → Tail → Ends → Ends → Type 0
 EndsBy protocol (Ok served) tail start end =
@@ -68,7 +68,7 @@ EndsBy protocol (Err (stop.Write requests)) tail start end =
     (tail.closing ≡ []) ⊎ ((which : Fault) × IsTailOf protocol (faulty which) tail)
 EndsBy protocol (Err stop.NoMemory) tail start end = (tail.closing ≡ []) × (end ≡ start)
 
--- the sink took the texts in order, and the last one up to some place
+-- the sink took the texts in order, and of the last one a front part
 pub record BreaksOff (old new : Option (List ℕ)) (texts : List (List ℕ)) : Type 0 where
   pub whole : List (List ℕ)
   pub part : List ℕ
@@ -76,7 +76,7 @@ pub record BreaksOff (old new : Option (List ℕ)) (texts : List (List ℕ)) : T
   pub texts_are : texts ≡ whole ++ (part ++ unwritten) ∷ []
   pub taken : Appends old new (concat whole ++ part)
 
--- the sink took the texts in order: all, or where it failed, the last one up to some place
+-- the sink took the texts in order: all, or, if it failed, of the last one a front part
 abbrev pub SinkTook : Result Served ServeFault → Option (List ℕ) → Option (List ℕ) → List (List ℕ)
     → Type 0
 SinkTook (Ok served) old new texts = Appends old new (concat texts)
@@ -128,8 +128,8 @@ MayBeLeft part.Ended is_empty = ⊥
 MayBeLeft part.GaveWay is_empty = is_empty ≡ true
 MayBeLeft part.Paused is_empty = ⊤
 
--- how a part of a stream ended that was served without a fault: as the stream; or it was left, and
--- if it gave way to another client, between two requests, so that none is cut
+-- how a part of a stream ended without a fault: with the stream; or the stream was left, and if it
+-- gave way to another client, between two requests, so that none is cut
 abbrev pub EndsPart : {State : Type 0} →
     PartEnd → Protocol State → ℕ → (kept : List ℕ) → Tail → Ends → Ends → Type 0
 EndsPart part.Ended protocol requests kept tail start end =
@@ -137,7 +137,7 @@ EndsPart part.Ended protocol requests kept tail start end =
 EndsPart part.GaveWay protocol requests kept tail start end = IsLeft kept tail × (kept ≡ [])
 EndsPart part.Paused protocol requests kept tail start end = IsLeft kept tail
 
--- how a part of a stream ended; its buffer was there before, and is not refused
+-- how a part of a stream ended; its buffer exists already, so memory for it is not refused
 abbrev pub EndsPartBy : {State : Type 0} →
     Protocol State → Result Part ServeFault → (kept : List ℕ) → Tail → Ends → Ends → Type 0
 EndsPartBy protocol (Ok it) kept tail start end =
@@ -150,7 +150,8 @@ abbrev pub as_served : Result Part ServeFault → Result Served ServeFault
 as_served (Ok it) = Ok (record { requests = it.requests })
 as_served (Err why) = Err why
 
--- a part of a stream was served, of which some bytes had come before; in the end these are kept
+-- a part of a stream was served: the bytes `come` had come before it, and the bytes `kept` are kept
+-- after it
 abbrev pub DidPart : {State : Type 0} → Protocol State → Runs → ℕ → (come kept : List ℕ)
     → Ends → Ends → Result Part ServeFault → Type 0
 DidPart protocol runs limit come kept start end result =
@@ -162,8 +163,8 @@ pub record Untouched {Machine : Type 0} (start end : Ends) (old new : Machine) :
   pub ends_are : end ≡ start
   pub machine_is : new ≡ old
 
--- How the calls of the two ends went, by their own counts: none failed or moved no byte, but one at
--- most, which the outcome tells. Nothing is said where memory was refused before the first call.
+-- How the calls of the two ends went, by their own counts: at most one failed or moved no byte, and
+-- the outcome says which. Nothing is said if memory was refused before the first call.
 abbrev pub TellsFault : Ends → Ends → Result Served ServeFault → Type 0
 TellsFault start end (Ok served) =
     (NoneStops start.source.counts end.source.counts
@@ -176,8 +177,8 @@ TellsFault start end (Err (stop.Write requests)) =
     × (OneFails start.sink.counts end.sink.counts ⊎ OneIsEmpty start.sink.counts end.sink.counts)
 TellsFault start end (Err stop.NoMemory) = ⊤
 
--- How the calls of the two ends went in a part of a stream that was served without a fault: where
--- the stream was left, none failed or moved no byte.
+-- How the calls of the two ends went in a part of a stream that was served without a fault: if the
+-- stream was left, none failed or moved no byte.
 abbrev pub TellsEnd : PartEnd → Ends → Ends → Type 0
 TellsEnd part.Ended start end = TellsFault start end (Ok (record { requests = 0 }))
 TellsEnd part.GaveWay start end =
@@ -185,7 +186,7 @@ TellsEnd part.GaveWay start end =
 TellsEnd part.Paused start end =
     NoneStops start.source.counts end.source.counts × NoneStops start.sink.counts end.sink.counts
 
--- how the calls of the two ends went in a part of a stream, whose buffer was there before and is not
+-- how the calls of the two ends went in a part of a stream, whose buffer exists already and is not
 -- refused
 abbrev pub TellsPart : Ends → Ends → Result Part ServeFault → Type 0
 TellsPart start end (Ok it) = TellsEnd it.end start end

@@ -7,9 +7,9 @@ use Rattle.office_http_framing.specs.Protocol.{Protocol, bytes_of}
 
 -- How a machine stores its state: whether it is honest (what was written has come back, and no
 -- failure has shut it), what it holds, what a crash at this moment may leave of that (while what
--- was written has come back, whether or not a failure shut it), and the states for which either
--- stands; how often it has written; and what the step of a request, from a state, may make of what
--- is stored and of that count.
+-- was written has come back, whether or not a failure shut it), and the states that either stands
+-- for; how often it has written; and what the step of a request, from a state, may make of what is
+-- stored and of that count.
 pub record Storage (Machine State Stored : Type 0) : Type 1 where
   pub is_honest : Machine → Type 0
   pub holds : Machine → Stored
@@ -33,7 +33,7 @@ pub record Moment
   pub kept : Stored
   pub written : storage.Counts
 
--- the moment of a machine of which this is kept, for this state
+-- the moment of a machine that keeps this for this state
 abbrev pub moment_of : {Machine State Stored : Type 0} →
     (storage : Storage Machine State Stored) → Machine → Stored → State → Moment storage
 moment_of storage machine kept state =
@@ -60,9 +60,9 @@ module _
       (answer : List ℕ) × (after : State) × protocol.step before request answer after
       × storage.stands stored after
 
-  -- What a crash may leave after a request, where it could leave so much before. Where the request
-  -- took its step: what is kept, and nothing else once that has changed. Where it was answered
-  -- unavailable: what it could before, or the request's step.
+  -- What a crash may leave after a request, if it could leave `may` before. If the request took its
+  -- step: what is kept, and nothing else once that has changed. If it was answered unavailable:
+  -- what it could before, or the request's step.
   abbrev pub LeavesOne :
       How → PlainRequest → (may : Stored → Type 0) → (old new : Moment storage) → Stored → Type 0
   LeavesOne stepped request may old new left =
@@ -91,8 +91,9 @@ module _
       (moment_of storage after old.kept old.state)
 
   -- THE STOP. The requests were dealt with in turn, from one moment to the last; and a crash leaves
-  -- no more than each lets it: so much before the first one, and this at the end. So it leaves the
-  -- state after the last request that took its step and changed what is kept, or after a later one.
+  -- no more than each lets it: `may` before the first one, and `at_end` after the last. So it
+  -- leaves the state after the last request that took its step and changed what is kept, or after a
+  -- later one.
   abbrev pub Leaves : (may : Stored → Type 0) → Moment storage → List PlainRequest
       → List (List ℕ) → (at_end : Stored → Type 0) → Moment storage → Type 0
   Leaves may first [] [] at_end last = ((left : Stored) → at_end left → may left) × (last ≡ first)
@@ -102,8 +103,8 @@ module _
   Leaves may first _ _ at_end last = ⊥
 
   -- The machine ran over the requests and gave these answers, from this moment on, when a crash
-  -- could leave so much: what it keeps at the end stands for the state, and so much a crash may
-  -- leave.
+  -- could leave `may`: what it keeps at the end stands for the state, and a crash leaves no more
+  -- than `Leaves` says.
   pub record Ran
       (may : Stored → Type 0) (first : Moment storage) (machine : Machine) (kept : Stored)
       (state : State) (requests : List PlainRequest) (answers : List (List ℕ)) : Type 0 where

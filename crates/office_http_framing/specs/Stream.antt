@@ -7,7 +7,7 @@ use Rattle.office_http_framing.specs.Front.{PlainRequest, BeginsWithRequest, IsI
 abbrev pub left_after : ℕ → PlainRequest → ℕ
 left_after limit request = if request.last then 0 else limit - 1
 
--- the bytes are these requests, at most as many as the limit, and then rest; so many more may come
+-- the bytes are these requests, at most as many as the limit, and then `rest`; `left` more may come
 abbrev pub BeginsWith : ℕ → List ℕ → List PlainRequest → List ℕ → ℕ → Type 0
 BeginsWith limit bytes [] rest left = (bytes ≡ rest) × (limit ≡ left)
 BeginsWith limit bytes (request ∷ requests) rest left =
@@ -20,7 +20,7 @@ pub data Ending : Type 0 where
   closed unfinished : Ending
   faulty : Fault → Ending
 
--- the list of requests ends this way, where rest is left of the bytes and so many more may come
+-- the list of requests ends this way, if these bytes are left and so many more requests may come
 abbrev pub EndsAt : List ℕ → ℕ → Ending → Type 0
 EndsAt rest left closed = left ≡ 0
 EndsAt rest left unfinished = (0 < left) × IsIncomplete rest

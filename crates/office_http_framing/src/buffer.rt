@@ -12,9 +12,9 @@ use std::marker::Model;
 /// As many bytes as the longest request has: a whole head and a whole body.
 pub const BUFFER_LEN: usize = 270_336;
 
-/// The bytes that were read and are not yet dealt with: those from `start` to `end`, which is not
-/// included. Contracts see them as a list. A stream that is served in parts keeps its buffer from
-/// one part to the next.
+/// The bytes that were read and are not yet dealt with: those from `start` to before `end`.
+/// Contracts see them as a list. A stream that is served in parts keeps its buffer from one part to
+/// the next.
 #[derive(Drop)]
 pub struct Buffer {
     bytes: Vec<u8>,
@@ -66,7 +66,7 @@ impl Buffer {
         &self.bytes[self.start..self.end]
     }
 
-    /// Lets the first `len` bytes go.
+    /// Drops the first `len` bytes.
     pub(crate) fn consume(&mut self, len: usize)
         requires { len ≤ length self.old }
         ensures { self.new ≡ drop len self.old }
@@ -75,7 +75,7 @@ impl Buffer {
     }
 
     /// Makes one read of the source, adds its bytes after those that are buffered, and says how
-    /// many came: 0 at the end of the stream. An error is the source's, and adds none.
+    /// many came: 0 at the end of the stream. If the source fails, none are added.
     pub(crate) fn fill<R: Source>(&mut self, source: &mut R) -> io::Result<usize>
         requires { length self.old < BUFFER_LEN }
         ensures bytes { MatchResult result

@@ -8,7 +8,7 @@ ghost use Rattle.office_http_framing.specs.Ends.{Grows, FailsOrGivesNone, Writes
 use std::io;
 use std::io::{Read, Write};
 
-/// How the calls of a source or a sink went. Each count stays at `u64::MAX` once it is there.
+/// How the calls of a source or a sink went. Each count stays at `u64::MAX` once it reaches that.
 #[derive(Clone, Copy, Default)]
 pub struct Counts {
     pub calls: u64,
@@ -33,14 +33,14 @@ impl Counts {
     }
 }
 
-/// What is done next with a stream that is served in parts, if its source lets that go on.
+/// The next step of a stream that is served in parts, if its source lets the stream go on.
 #[derive(Clone, Copy)]
 pub enum NextStep {
-    /// A request, or a fault, that has come whole is answered.
+    /// To answer a request that has come whole, or a fault.
     Answer,
-    /// A next request is read, of which no byte has come.
+    /// To read the next request: no byte of it has come.
     ReadNext,
-    /// More is read of a request of which a part has come.
+    /// To read more of a request: a part of it has come.
     ReadMore,
 }
 
@@ -49,14 +49,14 @@ pub enum NextStep {
 pub enum Wait {
     /// The step is taken.
     GoOn,
-    /// The stream is left here, to be served on later. What was read and not answered is kept.
+    /// The stream pauses here, to be served on later. What was read and not answered is kept.
     Pause,
-    /// The stream ends here for another client. Where a byte of a request has come, this is
-    /// `GoOn`.
+    /// The stream ends here for another client. If a byte of a request has come, it goes on
+    /// instead.
     GiveWay,
 }
 
-/// Where the bytes of a stream come from, seen as those bytes and as the counts of its calls.
+/// Where the bytes of a stream come from. Contracts see those bytes and the counts of its calls.
 pub trait Source {
     ghost use Rattle.office_http_framing.specs.Ends.{Told, call_counts_after};
 
@@ -72,22 +72,22 @@ pub trait Source {
         ensures counts { (told self.new).counts ≡ call_counts_after result (told self.old).counts };
 
     /// Waits until the next step of a stream that is served in parts can be taken, and says whether
-    /// it is to be: always, if a source does not say otherwise. It takes no byte and counts as no
-    /// call. A stream that is served as a whole does not ask.
+    /// to take it: always, unless a source says otherwise. It takes no byte and counts as no call.
+    /// It is not called for a stream that is served as a whole.
     fn wait(&mut self, _next: NextStep) -> Wait
         ensures { told self.new ≡ told self.old }
     {
         Wait::GoOn
     }
 
-    /// Hears that a request was answered as unavailable: memory or the store was refused. It takes
+    /// Learns that a request was answered as unavailable: memory or the store was refused. It takes
     /// no byte and counts as no call.
     fn note_unavailable(&mut self)
         ensures { told self.new ≡ told self.old }
     {}
 }
 
-/// Where the answers go, seen as the bytes that it took and as the counts of its calls.
+/// Where the answers go. Contracts see the bytes that it took and the counts of its calls.
 pub trait Sink {
     ghost use Rattle.office_http_framing.specs.Ends.{Told, call_counts_after};
 
@@ -95,7 +95,7 @@ pub trait Sink {
     ghost told: { Self → Told };
 
     /// Writes some bytes from the front of the slice, which is not empty, and says how many: none
-    /// where the sink takes no more. An interrupted write is a failure.
+    /// if the sink takes no more. An interrupted write is a failure.
     fn write(&mut self, buf: &[u8]) -> io::Result<usize>
         requires { 0 < length buf.now }
         ensures bound { WritesAtMost result buf.now }
@@ -167,8 +167,8 @@ impl<W: Write> Sink for ToWrite<W> {
 #[derive(Clone, Copy)]
 pub struct WriteFailed;
 
-/// Writes all the bytes, by as many writes as it takes. After an error the sink has taken those up
-/// to some place, and is not called again.
+/// Writes all the bytes, by as many writes as it takes. On an error the sink has taken only the
+/// first of them, or none, and is not called again.
 pub fn write_all<W: Sink>(writer: &mut W, bytes: &[u8]) -> Result<(), WriteFailed>
     ensures bytes { WritesOrBreaksOff result (W.told writer.old) (W.told writer.new) bytes.now }
     ensures counts { Grows (W.told writer.old).counts (W.told writer.new).counts }

@@ -29,8 +29,8 @@ pub enum PartEnd {
     Ended,
     /// The source gave way to another client, between two requests: nothing is buffered.
     GaveWay,
-    /// The source has the stream left here for now: the buffer keeps what was read of the requests
-    /// that were not answered.
+    /// The source paused the stream: the buffer keeps what was read of requests that were not
+    /// answered.
     Paused,
 }
 
@@ -54,8 +54,8 @@ pub enum ServeFault {
     NoMemory,
 }
 
-/// Answers one request, and writes the answer, or where that was refused the text that says so, of
-/// which the reader hears. The error means that not all of it was written.
+/// Answers one request, and writes the answer. If the machine is unavailable, it writes the text
+/// that says so, and tells the reader. The error means that not all of it was written.
 fn serve_request<Tools, M: Machine<Tools>, R: Source, W: Sink>(
     alloc: Global,
     machine: &mut M,
@@ -84,7 +84,7 @@ fn serve_request<Tools, M: Machine<Tools>, R: Source, W: Sink>(
     }
 }
 
-/// Writes the answer to a fault, or where memory for that was refused the text that says so. The
+/// Writes the answer to a fault, or, if memory for that was refused, the text that says so. The
 /// error means that not all of it was written.
 fn serve_fault<Tools, M: Machine<Tools>, W: Sink>(
     alloc: Global,
@@ -101,7 +101,7 @@ fn serve_fault<Tools, M: Machine<Tools>, W: Sink>(
     }
 }
 
-/// How many requests may follow one, where `left` might come before it came: none after the last.
+/// How many requests may follow one, if `left` were allowed with it: none after the last.
 fn left_after(left: u32, last: bool) -> u32
     ensures left { result ≡ if last then 0 else left - 1 }
     ensures fewer { result ≤ left - 1 }
@@ -109,8 +109,8 @@ fn left_after(left: u32, last: bool) -> u32
     if last { 0 } else { left.saturating_sub(1) }
 }
 
-/// How a stream is left before the next step, if it may be and its source has it left there.
-/// `front` is what stands at the front of its buffer.
+/// How a stream is left before its next step, if it may be left and its source says so. `front` is
+/// what its buffer begins with.
 fn left_before<R: Source>(
     reader: &mut R,
     front: Front<'_>,
@@ -135,12 +135,11 @@ fn left_before<R: Source>(
     }
 }
 
-/// Serves the requests of a stream, one after another, of which the buffer holds what came before:
-/// until the source ends, or a fault or the last request was answered, or `max_requests` were. It
-/// reads only while it holds no whole request and no fault. If `may_leave`, it asks the source
-/// before each answer and each read whether the stream is left there: it pauses, and the buffer
-/// keeps what was read and not answered; or it gives way to another client. `NoMemory` is never the
-/// error.
+/// Serves the requests of a stream, one after another, first from the bytes in the buffer: until
+/// the source ends, or a fault or the last request was answered, or `max_requests` were. It reads
+/// only while it holds no whole request and no fault. If `may_leave`, it asks the source before
+/// each answer and each read whether to leave the stream there: to pause, so that the buffer keeps
+/// what was read and not answered, or to give way to another client. The error is never `NoMemory`.
 pub fn serve_buffered<Tools, M: Machine<Tools>, R: Source, W: Sink>(
     alloc: Global,
     machine: &mut M,
@@ -154,9 +153,9 @@ pub fn serve_buffered<Tools, M: Machine<Tools>, R: Source, W: Sink>(
     ensures clean { M.is_clean machine.new → M.is_clean machine.old }
     ensures honest { M.storage.is_honest machine.new → M.storage.is_honest machine.old }
 
-    // What `serve` says of its stream, of a part that begins with the bytes that are buffered. If
-    // the stream was left, all requests of the part were answered whole, and the buffer keeps what
-    // follows them; if it gave way, that is nothing.
+    // What `serve` ensures for its stream, for a part that begins with the bytes that are buffered.
+    // If the stream was left, all requests of the part were answered whole, and the buffer keeps
+    // what follows them; if it gave way, that is nothing.
     ensures did { M.is_clean machine.new →
         (before : M.State) (held : M.Stored) → KeepsState M.storage machine.old held before →
         (after : M.State) × (kept : M.Stored) × DidPart M.protocol
@@ -168,7 +167,7 @@ pub fn serve_buffered<Tools, M: Machine<Tools>, R: Source, W: Sink>(
         (ends_of (R.told reader.new) (W.told writer.new)) result }
     ensures whole { may_leave ≡ false → IfOk result (λ part. part.end ≡ PartEnd.Ended) }
     ensures asks { OnlyAsksAfter R.told max_requests buffer.old reader.old reader.new }
-    // Each read but one gives a byte at least.
+    // Each read but one gives at least one byte.
     ensures reads { (R.told reader.new).counts.calls + length buffer.old
         ≤ (R.told reader.old).counts.calls + longest_request * max_requests
         + length buffer.new + 1 }
@@ -236,11 +235,11 @@ pub fn serve<Tools, M: Machine<Tools>, R: Source, W: Sink>(
         (moment_of M.storage machine.old held before) machine.new kept after)
         max_requests (ends_of (R.told reader.old) (W.told writer.old))
         (ends_of (R.told reader.new) (W.told writer.new)) result }
-    // No call of an end failed or moved no byte but the last one of that end, as the result says:
-    // Read where the source failed, Write where the sink failed or took no byte.
+    // Only the last call of an end may have failed or moved no byte, as the result says: Read if
+    // the source failed, Write if the sink failed or took no byte.
     ensures fault { TellsFault (ends_of (R.told reader.old) (W.told writer.old))
         (ends_of (R.told reader.new) (W.told writer.new)) result }
-    // Where the buffer was refused nothing was touched, whatever the machine stood for.
+    // If the buffer was refused, nothing was touched, whatever the machine stood for.
     ensures untouched { IfErr result (λ why. why ≡ ServeFault.NoMemory →
         Untouched (ends_of (R.told reader.old) (W.told writer.old))
         (ends_of (R.told reader.new) (W.told writer.new)) machine.old machine.new) }

@@ -48,8 +48,8 @@ fn trim(s: &[u8]) -> &[u8]
     trim_end(trim_start(s))
 }
 
-/// The length in bytes that one value gives: digits alone, leading zeros allowed. Another value is
-/// `Length`, and more than `LARGEST_BODY` is `BodyTooLarge`.
+/// The length in bytes that one value gives: digits alone, leading zeros allowed. The fault is
+/// `Length` for any other value, and `BodyTooLarge` for more than `LARGEST_BODY`.
 fn length_of(value: &[u8]) -> Result<usize, Fault>
     ensures { result ≡ length_of value.now }
 {
@@ -71,8 +71,8 @@ fn length_of(value: &[u8]) -> Result<usize, Fault>
     }
 }
 
-/// The length in bytes that the Content-Length fields give: 0 without one. Two are `Length`, equal
-/// ones too.
+/// The length in bytes that the Content-Length fields give: 0 without one. For two, even if equal,
+/// the fault is `Length`.
 fn length_among(bytes: &[u8], fields: &[HeaderSpan]) -> Result<usize, Fault>
     requires { All (IsHeaderWithin (length bytes.now)) fields.now }
     ensures { result ≡ length_among
@@ -103,8 +103,8 @@ fn has_transfer_encoding(bytes: &[u8], fields: &[HeaderSpan]) -> bool
     false
 }
 
-/// The length of the body in bytes, or the fault that the fields have: a Transfer-Encoding, which
-/// is tested first, is `Coded`.
+/// The length of the body in bytes, or the fault of the fields: `Coded` for a Transfer-Encoding,
+/// which is tested first.
 #[tactic(auto, unfolding(crate::specs::Fields::body_length))]
 pub(crate) fn body_length(bytes: &[u8], fields: &[HeaderSpan]) -> Result<usize, Fault>
     requires { All (IsHeaderWithin (length bytes.now)) fields.now }

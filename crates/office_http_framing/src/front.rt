@@ -1,4 +1,4 @@
-//! What stands at the front of the bytes of a stream.
+//! What the bytes of a stream begin with.
 
 ghost use Rattle.std.specs.Prelude.{◌≡◌, ◌==◌, ◌≤◌, length};
 ghost use Rattle.std.specs.List.{before_first};
@@ -9,7 +9,7 @@ use crate::fields::{body_length, closes};
 use httparse::Status;
 use httparse::spans::{EMPTY_HEADER_SPAN, HeaderSpan, RequestSpans, parse_request};
 
-/// In how many bytes from the front a head has to be whole.
+/// A head has to be whole within this many bytes from the front.
 pub const HEAD_LIMIT: usize = 8_192;
 
 /// The most fields of a head.
@@ -24,7 +24,7 @@ pub enum Fault {
     Head,
     /// The head is not whole in the first `HEAD_LIMIT` bytes.
     HeadTooLarge,
-    /// There is a Content-Length that is not digits alone, or more than one.
+    /// A Content-Length is not digits alone, or there is more than one.
     Length,
     /// Content-Length is more than 262,144 bytes.
     BodyTooLarge,
@@ -43,7 +43,7 @@ pub struct Request<'b> {
     pub last: bool,
 }
 
-/// What stands at the front of the bytes of a stream.
+/// What the bytes of a stream begin with.
 #[derive(Clone, Copy)]
 pub enum Front<'b> {
     /// A whole request, and how many bytes it takes.
@@ -62,8 +62,8 @@ fn path_of(target: &[u8]) -> &[u8]
     }
 }
 
-/// What stands at the front of bytes that begin with this head: the request, a part of it, or the
-/// fault of its fields. `start` is the first `HEAD_LIMIT` bytes.
+/// What bytes begin with whose head is this one: the request, a part of it, or the fault of its
+/// fields. `start` is the first `HEAD_LIMIT` bytes.
 fn front_with_head<'b>(
     bytes: &'b [u8],
     start: &[u8],
@@ -94,8 +94,7 @@ fn front_with_head<'b>(
     Front::Whole { request, length }
 }
 
-/// What stands at the front of these bytes: a whole request, a part of one, or a fault. It takes no
-/// memory.
+/// What these bytes begin with: a whole request, a part of one, or a fault. It takes no memory.
 pub fn next_request(bytes: &[u8]) -> Front<'_>
     ensures { IsFrontOf bytes.now result }
 {

@@ -2,7 +2,7 @@
 
 ghost use Rattle.std.specs.Prelude.{◌≡◌, ◌↔◌, true, false, IsTrue};
 
-/// What is ready while a connection awaits its next request, of which no byte is buffered.
+/// What is ready while a connection awaits its next request and no byte of that is buffered.
 #[derive(Clone, Copy)]
 pub struct Ready {
     /// A read of the connection returns at once: with bytes, the end, or a failure.
@@ -11,7 +11,7 @@ pub struct Ready {
     pub is_awaited: bool,
 }
 
-/// Whether the connection ends for the other client: one waits, and no request is under way.
+/// Whether the connection ends for another client: one waits, and a read would not return at once.
 pub fn gives_way(ready: Ready) -> bool
     ensures { IsTrue result ↔ ((ready.is_awaited ≡ true) × (ready.is_readable ≡ false)) }
 {

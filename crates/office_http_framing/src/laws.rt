@@ -3,7 +3,7 @@
 ghost use Rattle.std.specs.Prelude.{ℕ, List};
 ghost use Rattle.office_http_framing.specs.Laws.{HasOneFront, HasOneList};
 
-/// What stands at the front of any bytes is one thing, but where `httparse` leaves it open.
+/// Any bytes begin with one thing only, unless `httparse` leaves it open.
 pub fn one_front()
     ensures { (bytes : List ℕ) → HasOneFront bytes }
 {}

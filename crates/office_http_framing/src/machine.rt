@@ -1,5 +1,5 @@
-//! What answers the requests of a stream: the code that reads requests and writes answers knows no
-//! more of it than the trait `Machine` says.
+//! What answers the requests of a stream. The code that reads requests and writes answers knows
+//! only the trait `Machine`.
 
 ghost use Rattle.std.specs.Prelude.{◌≡◌, IfOk};
 
@@ -11,7 +11,7 @@ use std::alloc::{AllocError, Global};
 pub enum Answer {
     /// Bytes that were made for this request.
     Written(Vec<u8>),
-    /// A text that stands in the program. It takes no memory.
+    /// A text of the program. It takes no memory.
     Fixed(&'static [u8]),
 }
 
@@ -35,7 +35,7 @@ impl Answer {
 pub struct Unavailable;
 
 /// A machine that answers requests one after another, each from the state that the one before it
-/// left. `Tools` are what it makes once for a stream and uses for each request, as a table of
+/// left. `Tools` are what it makes once for a stream and uses for each request, such as a table of
 /// routes.
 pub trait Machine<Tools> {
     ghost use Rattle.office_http_framing.specs.Front.{plain};
@@ -48,8 +48,8 @@ pub trait Machine<Tools> {
     // What the machine can store of a state.
     ghost Stored: { Type 0 };
 
-    // What the machine holds now, what a crash may leave of that, the states for which either
-    // stands, and whether the machine is honest: what it keeps its state on has returned what was
+    // What the machine holds now, what a crash may leave of that, the states that either stands
+    // for, and whether the machine is honest: what it keeps its state on has returned what was
     // written, and no failure has shut it. How often it has written, and what a request may write.
     ghost storage: { Storage Self State Stored };
 
@@ -72,9 +72,9 @@ pub trait Machine<Tools> {
         ensures clean { is_clean self.new → is_clean self.old }
         ensures honest { storage.is_honest self.new → storage.is_honest self.old }
         // Whichever state is kept: the answer is its step, what is kept then stands for the state
-        // after it, with no writes but those that the step may make, and a crash leaves that alone
-        // once it has changed. Where the result is `Unavailable`, what is kept and the count
-        // of writes stay.
+        // after it, with no writes but those that the step may make, and a crash leaves nothing
+        // else once it has changed. If the result is `Unavailable`, what is kept and the count of
+        // writes stay.
         ensures deals { is_clean self.new →
             (before : State) (held : Stored) → KeepsState storage self.old held before →
             DealsBy protocol storage self.old self.new
@@ -84,8 +84,7 @@ pub trait Machine<Tools> {
     fn fault_answer(alloc: Global, fault: Fault) -> Result<Vec<u8>, AllocError>
         ensures { IfOk result (λ answer. answer.items ≡ protocol.fault_text fault) };
 
-    /// The answer that stands in place of one for which memory or the store was refused. It takes
-    /// no memory.
+    /// The answer in place of one for which memory or the store was refused. It takes no memory.
     fn unavailable() -> &'static [u8]
         ensures { result.now ≡ protocol.unavailable_text };
 }

@@ -15,7 +15,7 @@ use Rattle.office_http_requests.specs.FaultsInOrder.{or_fault, or_field}
 use Rattle.office_http_requests.specs.Fields.{field_name}
 use Rattle.signal_records.specs.Reading.{within}
 
--- the data that bytes are in JSON, where they are UTF-8 and one JSON value
+-- bytes as JSON data, if they are UTF-8 and one JSON value
 abbrev pub json_of : List ℕ → Option Data
 json_of bytes = if is_utf8 bytes then read bytes else None
 
@@ -24,7 +24,7 @@ abbrev pub object_in : Data → Option Data
 object_in (object members) = Some (object members)
 object_in _ = None
 
--- the JSON object that a body is, or the fault Json
+-- a body as a JSON object, or the fault Json
 unfoldable pub body_of : List ℕ → Result Data AskFault
 body_of bytes = or_fault Json (option_and_then object_in (json_of bytes))
 
@@ -41,7 +41,7 @@ number_in body field = option_and_then as_u64 (option_and_then as_number (get (f
 abbrev pub text_in : Data → Field → Option (List ℕ)
 text_in body field = option_and_then as_str (get (field_name field) body)
 
--- the number under a key, where it is low to high, or the field's fault
+-- the number under a key, if it is from low to high, or the field's fault
 unfoldable pub ranged_in : ℕ → ℕ → Data → Field → Result ℕ AskFault
 ranged_in low high body field = or_field field (option_and_then (within low high) (number_in body field))
 

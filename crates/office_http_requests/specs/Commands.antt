@@ -22,7 +22,7 @@ use Rattle.office_http_requests.specs.Rows.{changes_in}
 abbrev pub asked_in_json : Command → Asked
 asked_in_json command = record { command = command; form = Json }
 
--- a command whose answer is CSV, where its reply has that form
+-- a command whose answer is CSV, if its reply has that form
 abbrev pub asked_in_csv : Command → Asked
 asked_in_csv command = record { command = command; form = Csv }
 

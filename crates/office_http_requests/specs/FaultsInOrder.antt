@@ -1,4 +1,4 @@
--- What a request asks, as a chain of steps of which each may find a fault.
+-- What a request asks, as a chain of steps, each of which may find a fault.
 use Rattle.std.specs.Prelude.{◌≡◌, ◌≢◌, Option, Some, None, Result, Ok, Err}
 use Rattle.office_files.specs.declared.fault.CsvFault.{CsvFault}
 use Rattle.office_http_requests.specs.AskFault.{ask_fault}

@@ -11,7 +11,7 @@ use Rattle.signal_records.specs.Reading.{number_spelled}
 abbrev pub is_slash : ℕ → Bool
 is_slash b = b == 47
 
--- a segment of a path, counted from 0, which is what stands before the first slash; empty where the path has fewer
+-- a segment of a path, counted from 0; segment 0 is what comes before the first slash; empty if the path has fewer
 abbrev pub segment : ℕ → List ℕ → List ℕ
 segment zero path = before_first is_slash path
 segment (suc index) path = segment index (after_first is_slash path)

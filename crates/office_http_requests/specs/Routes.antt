@@ -78,7 +78,7 @@ endpoints =
 abbrev pub RouteRows : Type 0
 RouteRows = RowsOf (RouteOf Endpoint)
 
--- the rows with one route more, to this endpoint, where the text was read as a route
+-- the rows with one more route, to this endpoint, if its text could be read as a route
 abbrev pub with_scan : Result Scan InsertError → Endpoint → RouteRows → RouteRows
 with_scan (Ok scan) endpoint rows = placed (scan.pattern, route_from scan endpoint) rows
 with_scan (Err e) endpoint rows = rows

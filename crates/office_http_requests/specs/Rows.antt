@@ -22,16 +22,16 @@ list_of (item d ds) = d ∷ list_of ds
 abbrev pub list_in : Data → Option (List Data)
 list_in d = option_map list_of (as_array d)
 
--- the values of all elements of a list, where each has one
+-- the values of all elements of a list, if each has one
 abbrev pub each : {A B : Type 0} → (A → Option B) → List A → Option (List B)
 each f [] = Some []
 each f (x ∷ xs) = option_and_then (λ y. option_map (λ ys. y ∷ ys) (each f xs)) (f x)
 
--- the texts of an array that has texts alone
+-- the texts of an array, if all its values are texts
 unfoldable pub texts_in : Data → Option (List (List ℕ))
 texts_in d = option_and_then (each as_str) (list_in d)
 
--- the rows under the key `rows`, where they are an array of arrays of texts
+-- the rows under the key `rows`, if they are an array of arrays of texts
 unfoldable pub rows_in : Data → Option (List (List (List ℕ)))
 rows_in body = option_and_then (each texts_in) (option_and_then list_in (get (field_name Rows) body))
 
@@ -53,12 +53,12 @@ RowRefs = Vec (Bor (List ℕ)) Global
 abbrev pub rows_seen : List RowRefs → List (List (List ℕ))
 rows_seen rows = map (λ row. texts row.items) rows
 
--- what was found is references to the wanted texts, or nothing where no texts are wanted
+-- what was found is references to the wanted texts, or nothing if no texts are wanted
 abbrev pub ShowsTexts : Option RowRefs → Option (List (List ℕ)) → Type 0
 ShowsTexts None wanted = wanted ≡ None
 ShowsTexts (Some refs) wanted = wanted ≡ Some (texts refs.items)
 
--- what was found is rows of the wanted texts, or nothing where no rows are wanted
+-- what was found is rows of the wanted texts, or nothing if no rows are wanted
 abbrev pub ShowsRows : Option (Vec RowRefs Global) → Option (List (List (List ℕ))) → Type 0
 ShowsRows None wanted = wanted ≡ None
 ShowsRows (Some rows) wanted = wanted ≡ Some (rows_seen rows.items)

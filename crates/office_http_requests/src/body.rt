@@ -13,8 +13,8 @@ use signal_records::{Number, Words};
 use std::alloc::Global;
 use std::str;
 
-/// The JSON object that the body of a request is; `Json` where it is none.
-// Reading needs a large local: a request without a body is not to pay for it.
+/// The body of a request as a JSON object; `Json` if it is none.
+// Reading needs a large local; a request without a body must not pay for it.
 #[inline(never)]
 pub(crate) fn read_object(alloc: Global, bytes: &[u8]) -> Result<Value, AskFault>
     ensures { Gives (data_of result) (body_of bytes.now) }
@@ -44,7 +44,7 @@ pub(crate) fn text(body: &Value, field: Field) -> Option<&str>
     body.get(field.name()).and_then(Value::as_str)
 }
 
-/// The number under a key, where it is `LOW` to `HIGH`, or the field's fault.
+/// The number under a key, if it is from `LOW` to `HIGH`, or the field's fault.
 #[tactic(auto, unfolding(crate::specs::Bodies::ranged_in))]
 pub(crate) fn number<Of, const LOW: u32, const HIGH: u32>(
     body: &Value,

@@ -23,8 +23,8 @@ impl RouteCache {
         RouteCache { routes: None }
     }
 
-    /// What a request asks, or its first fault, by the table that is kept. Where none is kept yet,
-    /// it is made first.
+    /// What a request asks, or its first fault, by the table that is kept. If none is kept yet, it
+    /// is made first.
     pub fn command_of(&mut self, alloc: Global, request: &Request) -> Result<Asked, AskFault>
         ensures gives { Gives result
             (command_at request.now.method.now request.now.path.now request.now.body.now) }

@@ -22,8 +22,8 @@ pub struct Asked {
 
 impl Routes {
     /// What a request asks, or the first fault: no route, another method, a path field from the
-    /// left, no JSON object, a key of the body by name, a row or a record of a CSV text that spells
-    /// nothing. `NoMemory` may stand for any of these.
+    /// left, no JSON object, a key of the body by name, a bad row or a bad record of a CSV text.
+    /// `NoMemory` may come in place of any result.
     #[tactic(auto, unfolding(crate::specs::Commands::command_at))]
     pub fn command_of(&self, alloc: Global, request: &Request) -> Result<Asked, AskFault>
         ensures { Gives result
@@ -37,7 +37,7 @@ impl Routes {
     }
 }
 
-/// What a request asks, or its first fault, by a table of routes that is made for this call alone.
+/// What a request asks, or its first fault, by a table of routes that is made only for this call.
 pub fn command_of(alloc: Global, request: &Request) -> Result<Asked, AskFault>
     ensures { Gives result
         (command_at request.now.method.now request.now.path.now request.now.body.now) }
@@ -112,7 +112,7 @@ fn in_json(command: Command) -> Asked
     }
 }
 
-// A command whose answer is CSV, where its reply has that form.
+// A command whose answer is CSV, if its reply has that form.
 fn in_csv(command: Command) -> Asked
     ensures { result ≡ asked_in_csv command }
 {

@@ -20,9 +20,9 @@ pub enum AskFault {
     Json,
     /// A field is missing, of another kind or out of its range.
     Field(Field),
-    /// A row of the body, or a record of its CSV text, spells nothing that the request may have.
+    /// A row of the body, or a record of its CSV text, is bad.
     BadRow(BadRow),
-    /// A growth was refused.
+    /// Memory was refused.
     NoMemory,
 }
 

@@ -1,6 +1,6 @@
 //! Requests read as commands: the routes, the fields of paths, and the JSON and CSV of bodies. An
-//! answer has to know the form that its request asks for (`form`), or why that asks nothing
-//! (`fault`) and which field is to blame (`field`).
+//! answer depends on the form that the request asks for (`form`), or on why the request asks
+//! nothing (`fault`) and which field is to blame (`field`).
 #![tactic(auto)]
 
 mod body;

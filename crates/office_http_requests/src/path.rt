@@ -35,8 +35,8 @@ fn after_slash(path: &[u8]) -> &[u8]
     }
 }
 
-/// A segment of a path, counted from 0, which is what stands before the first slash; empty where
-/// the path has fewer.
+/// A segment of a path, counted from 0; segment 0 is what comes before the first slash. It is empty
+/// if the path has fewer.
 pub(crate) fn segment(path: &[u8], index: usize) -> &[u8]
     ensures { result.now ≡ segment_of index path.now }
 {

@@ -174,17 +174,17 @@ impl Model for Routes {
 }
 
 impl Routes {
-    /// The whole table of routes. `NoMemory` means that a growth was refused.
+    /// The whole table of routes.
     pub fn new(alloc: Global) -> Result<Routes, NoMemory>
         ensures { IfOk result (λ routes. routes ≡ route_rows) }
     {
-        // No route is wrong and no two conflict, so that memory alone can be refused.
+        // No route is wrong and no two conflict, so only memory can be refused.
         let router = router(alloc).map_err(|_| NoMemory)?;
         Ok(Routes { router })
     }
 
-    /// The endpoint of a path, or `NoRoute` where no route has it, as none has bytes that are not
-    /// UTF-8. It takes no memory.
+    /// The endpoint of a path, or `NoRoute` if no route has it, as for bytes that are not UTF-8. It
+    /// takes no memory.
     pub fn endpoint_at(&self, path: &[u8]) -> Result<Endpoint, AskFault>
         ensures { result ≡ or_no_route (endpoint_of path.now) }
     {

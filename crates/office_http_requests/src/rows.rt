@@ -14,7 +14,7 @@ use serde_json::Value;
 use signal_records::read_change;
 use std::alloc::{AllocError, Global};
 
-// The texts of an array that has texts alone.
+// The texts of an array, if all its values are texts.
 fn texts<'a>(alloc: Global, row: &'a Value) -> Result<Option<Vec<&'a [u8]>>, AllocError>
     ensures { IfOk result (λ found. ShowsTexts found (texts_in (view row.now))) }
 {
@@ -68,8 +68,8 @@ fn changes(alloc: Global, rows: &[Vec<&[u8]>]) -> Result<Changes, AskFault>
     Ok(Changes::new(changes))
 }
 
-/// The changes that the rows under the key `rows` spell, or the fault: of that field, where they
-/// are no array of arrays of texts; or of the first bad row.
+/// The changes that the rows under the key `rows` spell, or the fault: of that field, if they are
+/// no array of arrays of texts; or of the first bad row.
 #[tactic(auto, unfolding(crate::specs::Rows::changes_in))]
 pub(crate) fn of_body(alloc: Global, body: &Value) -> Result<Changes, AskFault>
     ensures { Gives result (changes_in (view body.now)) }

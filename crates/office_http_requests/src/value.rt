@@ -7,7 +7,7 @@ use cabinet_core::{Day, PartCode, read_day};
 use signal_records::{NoMemory, Number, Words};
 use std::alloc::Global;
 
-/// This number, where it is `LOW` to `HIGH`.
+/// This number, if it is from `LOW` to `HIGH`.
 pub(crate) fn number_within<Of, const LOW: u32, const HIGH: u32>(
     n: u64,
 ) -> Option<Number<Of, LOW, HIGH>>
@@ -17,7 +17,7 @@ pub(crate) fn number_within<Of, const LOW: u32, const HIGH: u32>(
     Number::new(n)
 }
 
-/// The words of at most `MAX` bytes that a text is, if it is such.
+/// A text as words of at most `MAX` bytes, if it can be such.
 pub(crate) fn read_words<const MAX: usize>(
     alloc: Global,
     text: &[u8],
@@ -34,7 +34,7 @@ pub(crate) fn day_spelled(text: &[u8]) -> Option<Day>
     read_day(text)
 }
 
-/// The code of a part that a text is, if it is one.
+/// A text as the code of a part, if it is one.
 pub(crate) fn read_part(alloc: Global, text: &[u8]) -> Result<Option<PartCode>, NoMemory>
     ensures { IfOk result (λ part. part ≡ part_of text.now) }
 {

@@ -16,7 +16,7 @@ answer_with status content =
     ++ codes "\r\nContent-Type: application/json\r\nContent-Length: " ++ decimal (length content)
     ++ codes "\r\n\r\n" ++ content
 
--- these bytes were put after those that stood there
+-- these bytes were put after those that were there
 pub record PutsBytes (old new bytes : List ℕ) : Type 0 where
   pub items : new ≡ old ++ bytes
 
@@ -29,6 +29,6 @@ abbrev pub status_of : Reply → ℕ
 status_of (Refused refusal) = (line_of refusal).status
 status_of _ = 200
 
--- the bytes of the answer that tells a reply in a form
+-- the bytes of the answer with a reply in a form
 unfoldable pub answer_bytes : Reply → Form → List ℕ
 answer_bytes reply form = answer_text (status_of reply) (tree_in form reply)

@@ -44,13 +44,13 @@ kind_numbered n = first_numbered n (
     kind.Head ∷ kind.HeadTooLarge ∷ kind.Length ∷ kind.BodyTooLarge ∷ kind.Coded
     ∷ kind.NoRoute ∷ kind.Method ∷ kind.Json ∷ kind.Field ∷ [])
 
--- this is a fault's number, with what its answer shows more: nothing for 1 to 8, a field for 9, a bad row for 31
+-- a fault's number, with what else its answer shows: nothing for 1 to 8, a field for 9, a bad row for 31
 abbrev pub IsFault : ℕ → More → Type 0
 IsFault n Nothing = (1 ≤ n) × (n ≤ 8)
 IsFault n (FieldMore field) = n ≡ 9
 IsFault n (RowMore bad) = n ≡ 31
 
--- the JSON tree of a fault: its name and number, and more where its answer shows a field or a bad row
+-- the JSON tree of a fault: its name and number, and the field or the bad row, if its answer shows one
 abbrev pub fault_tree : FaultKind → More → Data
 fault_tree k Nothing = keys ((codes "error", text (line_of k).name) ∷ (codes "number", count (line_of k).number) ∷ [])
 fault_tree k (FieldMore field) =
@@ -74,7 +74,7 @@ fault_tree k (RowMore bad) =
 unfoldable pub fault_bytes : FaultKind → More → List ℕ
 fault_bytes k more = answer_text (line_of k).status (fault_tree k more)
 
--- the kind in the table of faults of a fault of a request's framing
+-- the kind of a fault of a request's framing, in the table of faults
 abbrev pub framing_kind : Fault → FaultKind
 framing_kind framing.Head = kind.Head
 framing_kind framing.HeadTooLarge = kind.HeadTooLarge

@@ -25,6 +25,6 @@ abbrev pub members : List (List ℕ × Data) → Members
 members [] = no_members
 members (entry ∷ rest) = member entry.0 entry.1 (members rest)
 
--- an object of these keys, which stand in ascending order
+-- an object of these keys, which are in ascending order
 abbrev pub keys : List (List ℕ × Data) → Data
 keys entries = object (members entries)

@@ -67,7 +67,7 @@ hand_tree entry = keys ((codes "count", count entry.1) ∷ (codes "part", text e
 abbrev pub stock_tree : List (List ℕ × ℕ) → Data
 stock_tree parts = keys ((codes "hand", array_of hand_tree parts) ∷ [])
 
--- the tree of an overdue intersection: the day on which its inspection fell due, null where there never
+-- the tree of an overdue intersection: the day on which its inspection fell due, null if there never
 -- was one, its number and its name
 abbrev pub listed_tree : Listed → Data
 listed_tree listed =

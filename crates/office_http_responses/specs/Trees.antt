@@ -33,12 +33,12 @@ verdict_name NotDone = codes "notDone"
 verdict_name DoneWithError = codes "doneWithError"
 verdict_name DoneWithNoError = codes "doneWithNoError"
 
--- the tree of a refusal of which no more is shown than its name and its number
+-- the tree of a refusal that shows only its name and its number
 abbrev pub error_tree : RefusalLine → Data
 error_tree line = keys ((codes "error", text line.name) ∷ (codes "number", count line.number) ∷ [])
 
--- the tree of a refusal: its name and its number; of VerifyFailed also how often the draft breaks rules; of
--- ImportRow also which record was refused, counted from 1, and the number of its refusal
+-- the tree of a refusal: its name and its number; for VerifyFailed also how often the draft breaks rules;
+-- for ImportRow also which record was refused, counted from 1, and the number of its refusal
 abbrev pub refusal_tree : Refusal → Data
 refusal_tree (refusal.Draft (VerifyFailed violations)) =
     keys (
@@ -115,7 +115,7 @@ tree_of (Stock parts) = stock_tree parts
 tree_of (Overdue rows) = overdue_tree rows
 tree_of (Refused why) = refusal_tree why
 
--- a CSV text, as the one key of an object
+-- a CSV text, under the one key of an object
 abbrev pub csv_tree : List ℕ → Data
 csv_tree csv = keys ((codes "csv", text csv) ∷ [])
 

@@ -19,16 +19,16 @@ tokens_of tree = json_tokens (outline tree)
 abbrev pub member_tokens : List ℕ × Data → List Token
 member_tokens entry = key entry.0 ∷ tokens_of entry.1
 
--- these tokens were written after what stood there
+-- these tokens were written after what was there
 pub record Added (old new : Written) (ts : List Token) : Type 0 where
   pub before : new.before ≡ old.before
   pub tokens : new.tokens ≡ old.tokens ++ ts
 
--- a call wrote these tokens after what stood there, or had no memory
+-- a call wrote these tokens after what was there, or had no memory
 abbrev pub Adds : {E : Type 0} → Result (Unit {0}) E → Written → Written → List Token → Type 0
 Adds result old new ts = OnOk result (Added old new ts)
 
--- a call wrote this tree after what stood there, or had no memory
+-- a call wrote this tree after what was there, or had no memory
 abbrev pub AddsTree : {E : Type 0} → Result (Unit {0}) E → Written → Written → Data → Type 0
 AddsTree result old new tree = Adds result old new (tokens_of tree)
 

@@ -23,16 +23,15 @@ const DAMAGED: &[u8] = b"HTTP/1.1 500 Internal Server Error\r\nContent-Type: app
 /// The room in bytes that most contents need.
 pub(crate) const CONTENT_ROOM: usize = 240;
 
-/// The answer where a stored row is no record, in whichever form. It takes no memory.
+/// The answer if a stored row is no record, in any form. It takes no memory.
 pub fn damaged() -> &'static [u8]
     ensures { (form : Form) → result.now ≡ answer_bytes (Refused Damaged) form }
 {
     DAMAGED
 }
 
-/// The whole HTTP answer that tells a reply in a form. Only what shows the committed rows or the
-/// cabinet of an intersection can be in CSV; any other reply is in JSON, whatever the form. The
-/// error means that memory was refused.
+/// The whole HTTP answer with a reply in a form. Only the committed rows or the cabinet of an
+/// intersection can be in CSV; any other reply is in JSON, whatever the form.
 pub fn answer_of(alloc: Global, reply: &Reply, form: Form) -> Result<Vec<u8>, AllocError>
     ensures { IfOk result (λ answer. answer.items ≡ answer_bytes reply.now form) }
 {
@@ -40,7 +39,7 @@ pub fn answer_of(alloc: Global, reply: &Reply, form: Form) -> Result<Vec<u8>, Al
     with_head(alloc, status(reply), content.as_slice())
 }
 
-// The content that tells a reply in a form, as compact JSON.
+// The content with a reply in a form, as compact JSON.
 fn content_of(alloc: Global, reply: &Reply, form: Form) -> Result<Vec<u8>, AllocError>
     ensures { IfOk result (λ content. content.items ≡ compact_text (tree_in form reply.now)) }
 {
@@ -59,7 +58,7 @@ fn status(reply: &Reply) -> StatusCode
     }
 }
 
-// The HTTP status of a refusal. Each has a code that HTTP knows, so that the fallback is not used.
+// The HTTP status of a refusal. Each has a code that HTTP knows, so the fallback is never used.
 fn refusal_status(refusal: Refusal) -> StatusCode
     ensures { result ≡ (line_of refusal).status }
 {

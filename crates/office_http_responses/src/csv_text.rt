@@ -14,7 +14,7 @@ use signal_records::{InterId, TimingSet};
 use std::alloc::{AllocError, Global};
 use std::str;
 
-// A CSV text, as the one key of an object.
+// A CSV text, under the one key of an object.
 fn write_csv(alloc: Global, to: &mut Writer, csv: &[u8]) -> Result<(), AllocError>
     requires { IsUtf8 csv.now }
     ensures { AddsTree result to.old to.new (csv_tree csv.now) }
@@ -37,8 +37,7 @@ pub(crate) fn write_timing_csv(
     write_csv(alloc, to, csv.as_slice())
 }
 
-/// Writes the records that made the cabinet of an intersection as it stands, as a CSV text under
-/// the key `csv`.
+/// Writes the records that make the cabinet of an intersection, as a CSV text under the key `csv`.
 pub(crate) fn write_cabinet_csv(
     alloc: Global,
     to: &mut Writer,

@@ -16,7 +16,7 @@ use office_http_framing::front::Fault;
 use office_http_requests::{AskFault, Field};
 use std::alloc::{AllocError, Global};
 
-/// What the answer of a fault shows beside its name and number.
+/// What the answer to a fault shows besides its name and number.
 #[derive(Clone, Copy)]
 pub enum More {
     Nothing,
@@ -53,7 +53,7 @@ const BEFORE_ROWS: [FaultKind; 9] = [
     FaultKind::Field,
 ];
 
-// A line of the table of faults: what its answer tells.
+// A line of the table of faults: what the answer shows of a fault.
 #[derive(Clone, Copy)]
 struct FaultLine {
     number: u32,
@@ -161,7 +161,7 @@ fn write_fault(
     }
 }
 
-// The content that tells a fault, as compact JSON.
+// The content of the answer to a fault, as compact JSON.
 fn content_of_fault(alloc: Global, kind: FaultKind, more: More) -> Result<Vec<u8>, AllocError>
     ensures { IfOk result (λ content. content.items ≡ compact_text (fault_tree kind more)) }
 {
@@ -179,7 +179,7 @@ fn kind_answer(alloc: Global, kind: FaultKind, more: More) -> Result<Vec<u8>, Al
 }
 
 /// The whole answer to a fault by its number: of a request's framing (1 to 5) or of what it asks (6
-/// to 9, and 31). The error means that memory was refused.
+/// to 9, and 31).
 pub fn fault_answer(alloc: Global, number: u32, more: More) -> Result<Vec<u8>, AllocError>
     requires { IsFault number more }
     ensures { IfOk result (λ answer. answer.items ≡ fault_bytes (kind_numbered number) more) }
@@ -202,7 +202,7 @@ pub fn ask_fault_answer(alloc: Global, fault: AskFault) -> Result<Vec<u8>, Alloc
     }
 }
 
-/// The whole answer to a fault of a request's framing. The error means that memory was refused.
+/// The whole answer to a fault of a request's framing.
 pub fn framing_fault_answer(alloc: Global, fault: Fault) -> Result<Vec<u8>, AllocError>
     ensures { IfOk result (λ answer. answer.items ≡ framing_fault_text fault) }
 {

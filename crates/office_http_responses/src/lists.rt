@@ -99,8 +99,8 @@ impl WriteJson for (PartCode, Hand) {
     }
 }
 
-// An intersection that is overdue, and the day on which its inspection fell due, or null where
-// there never was one.
+// An intersection that is overdue, and the day on which its inspection fell due, or null if there
+// never was one.
 impl WriteJson for OverdueRow {
     ghost use Rattle.cabinet_core.specs.Overdue.{listed_of};
     ghost use Rattle.office_http_responses.specs.RegisterTrees.{listed_tree};

@@ -1,4 +1,4 @@
-//! JSON objects and arrays, written a token at a time; members stand in the order given.
+//! JSON objects and arrays, written a token at a time, with members in the order given.
 ghost use Rattle.std.specs.Prelude.{◌≡◌, [], ◌∷◌, map, flat_map, option_map};
 ghost use Rattle.office_http_responses.specs.Json.{keys, array_of, or_null, text as text_tree};
 ghost use Rattle.office_http_responses.specs.RegisterTrees.{day_tree};
@@ -136,7 +136,7 @@ pub(crate) fn array<T: WriteJson>(
     Ok(())
 }
 
-/// Writes an object of this one key, under which the items stand as an array.
+/// Writes an object with this one key, whose value is the array of the items.
 pub(crate) fn object_of_array<T: WriteJson>(
     alloc: Global,
     to: &mut Writer,

@@ -74,7 +74,7 @@ module _ {D : Type 0} {g : Disk D} where
   IsNumbered _ = Unit {0}
 
 module _ {D : Type 0} {g : Disk D} {T : Type 0} where
-  -- the work came to `done`, and these are its files, which were closed after it
+  -- the result of the work is `done`, and these are its files, which were closed after it
   abbrev pub IsClosedWith : Ended T D g → T → Files D → Type 0
   IsClosedWith ended done files = ended ≡ Closed done files
 

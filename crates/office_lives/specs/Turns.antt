@@ -1,4 +1,4 @@
--- A stream that is served in turns over a file, which other runs may have between two of them.
+-- A stream that is served in turns over a file, which other runs may open between two turns.
 use Rattle.std.specs.Prelude.{◌≡◌, ◌-◌, ℕ, List, [], ◌∷◌, length, IfOk, Result, Ok}
 use Rattle.sqlite.specs.Files.{image_of}
 use Rattle.sqlite_disk.specs.declared.Disk.{Ghosts as Disk}
@@ -26,7 +26,7 @@ use Rattle.signal_office_file.specs.Task.{Effect}
 -- ---- a task in turns
 
 module _ {T Given : Type 0} (effect : T → T → Effect Given) where
-  -- the turns of a task, from what it was before them, as runs over a file: of each, what the task is after it, and what it gave
+  -- the turns of a task, from what it was before them, as runs over a file, each by what the task is after it and what it gave
   abbrev pub turns_of : T → List (T × Result Given Fault) → List Lived
   turns_of first [] = []
   turns_of first (it ∷ turns) = command (λ found made. (effect first it.0).does found it.1 made) ∷ turns_of it.0 turns

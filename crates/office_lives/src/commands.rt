@@ -17,8 +17,8 @@ use sqlite::Options;
 use sqlite_disk::{Disk, Files};
 use std::alloc::Global;
 
-/// How two streams ended, what the command between them gave, and the files, closed after all
-/// three.
+/// How two streams ended, what the command between them gave, and the files, closed after each of
+/// the three.
 #[derive(Drop)]
 pub struct Around<D: Disk, Given> {
     pub first: Outcome,
@@ -49,7 +49,8 @@ pub(crate) fn done_once<D: Disk + Drop, Given: Drop, T: OfficeTask<Given>, W: Si
 
 /// Serves a first stream, does a command over the files that came back, and serves a second stream
 /// over those that came back from the command; each stream is of at most `MOST` requests. The files
-/// are closed each time. `None` says that once they were refused or could not be closed.
+/// are closed each time. `None` says that at one of these steps they were refused or could not be
+/// closed.
 pub fn served_around<D: Disk + Drop, Given: Drop, T: OfficeTask<Given>, R: Source, W: Sink>(
     rt: &HostRuntime,
     alloc: Global,

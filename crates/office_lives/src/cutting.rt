@@ -20,8 +20,8 @@ use sqlite::Options;
 use sqlite_disk::{Crash, Disk, Files};
 use std::alloc::Global;
 
-/// What a command gave that was stopped, how the stream after it ended, and the files, closed after
-/// both.
+/// What a stopped command gave, how the stream after it ended, and the files, closed after the
+/// stream.
 #[derive(Drop)]
 pub struct CutShort<D: Disk, Given> {
     pub done: Result<Given, Fault>,
@@ -30,8 +30,8 @@ pub struct CutShort<D: Disk, Given> {
 }
 
 /// Does a command, stops, and serves a stream of at most `MOST` requests over what a stop leaves of
-/// the files. This covers a stop at any moment of the command, as a disk that does nothing more
-/// from then on. `None` says that the files were refused, or not closed after the stream.
+/// the files. This covers a stop at any moment of the command, seen as a disk that does nothing
+/// more from then on. `None` says that the files were refused, or not closed after the stream.
 pub fn served_after_a_command<
     D: Crash + Drop,
     Given: Drop,

@@ -1,4 +1,4 @@
-//! What comes back from work over files: they were closed after it, or not.
+//! What comes back from work over files, which were closed after it or not.
 
 ghost use Rattle.std.specs.Prelude.{IfSome};
 ghost use Rattle.office_lives.specs.Life.{IsClosedWith, IsUnclosedWith};
@@ -6,7 +6,7 @@ ghost use Rattle.office_lives.specs.Life.{IsClosedWith, IsUnclosedWith};
 use signal_office_file::{Ended, FileLeft};
 use sqlite_disk::{Disk, Files};
 
-/// What came of work, and its files, if they were closed after it; else `None`.
+/// The result of work, and its files, if they were closed after it; else `None`.
 pub(crate) fn closed_after<D: Disk + Drop, T: Drop>(ended: Ended<T, D>) -> Option<(T, Files<D>)>
     ensures { IfSome result (λ it. IsClosedWith ended it.0 it.1) }
 {

@@ -1,5 +1,5 @@
 //! Files that live through several runs: what one run leaves, the next one finds. The proofs use
-//! public contracts alone, and hold over any disk.
+//! only public contracts, and hold over any disk.
 #![tactic(auto)]
 
 mod commands;

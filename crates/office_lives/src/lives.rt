@@ -18,13 +18,13 @@ use sqlite::Options;
 use sqlite_disk::{Crash, Disk, Files};
 use std::alloc::Global;
 
-/// The most requests of one run, as the program serves of one stream.
+/// The most requests of one run, as many as the program serves of one stream.
 pub const MOST: u32 = 1_000_000;
 
 /// How a stream ended.
 pub type Outcome = Result<Served, ServeFault>;
 
-/// How two streams ended, and the files, closed after both.
+/// How two streams ended, and the files, closed after the second.
 #[derive(Drop)]
 pub struct Twice<D: Disk> {
     pub first: Outcome,
@@ -53,8 +53,8 @@ pub(crate) fn served_once<D: Disk + Drop, R: Source, W: Sink>(
 }
 
 /// Serves a first stream, closes the files, opens those that came back, and serves a second stream,
-/// each of at most `MOST` requests. `None` says that once the files were refused or could not be
-/// closed.
+/// each of at most `MOST` requests. `None` says that in one of the runs the files were refused or
+/// could not be closed.
 pub fn served_twice<D: Disk + Drop, R: Source, W: Sink>(
     alloc: Global,
     files: Files<D>,
@@ -85,9 +85,9 @@ pub fn served_twice<D: Disk + Drop, R: Source, W: Sink>(
 }
 
 /// Serves a first stream, stops, and serves a second one over what a stop leaves of the files, each
-/// of at most `MOST` requests. This covers a stop at any moment of the first run, as a disk that
-/// does nothing more from then on. `None` says that the files were refused, or not closed after the
-/// second stream.
+/// of at most `MOST` requests. This covers a stop at any moment of the first run, seen as a disk
+/// that does nothing more from then on. `None` says that the files were refused, or not closed
+/// after the second stream.
 pub fn served_after_a_stop<D: Crash + Drop, R: Source, W: Sink>(
     alloc: Global,
     files: Files<D>,

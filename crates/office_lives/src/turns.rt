@@ -1,5 +1,5 @@
 //! A task that is done in turns over a file, as a server serves its streams: between two turns the
-//! file is closed, and another run may have it.
+//! file is closed, and another run may open it.
 
 ghost use Rattle.std.specs.Prelude.{◌≡◌, ◌∷◌, ◌+◌, ◌-◌, [], IfOk, IfSome};
 ghost use Rattle.sqlite.specs.Files.{image_of};
@@ -20,8 +20,8 @@ use sqlite_disk::{Disk, Files};
 use std::alloc::Global;
 
 /// Does a task for a turn and then for `more` turns over the tables in the two files, as a server
-/// has its turns: the files are closed after each, and those that came back are opened for the
-/// next. `None` says that once they were refused or could not be closed.
+/// takes its turns: the files are closed after each, and those that came back are opened for the
+/// next. `None` says that in one of the turns they were refused or could not be closed.
 pub fn done_in_turns<D: Disk + Drop, Given: Drop, T: OfficeTask<Given>, O: Sink>(
     rt: &HostRuntime,
     alloc: Global,
@@ -54,8 +54,8 @@ pub struct InTurns<R, W> {
     pub left: u32,
 }
 
-/// How many requests may follow a part, of `left` that might come before it; none after a fault of
-/// an end.
+/// How many requests may follow a part, if `left` were allowed before it; none after a fault of an
+/// end.
 fn left_after(left: u32, outcome: &Result<Part, ServeFault>) -> u32
     ensures { IfOk outcome.now (λ part. result ≡ left - part.requests) }
 {
@@ -85,11 +85,11 @@ impl<R: Source, W: Sink> OfficeTask<Result<Part, ServeFault>> for InTurns<R, W> 
     }
 }
 
-/// What came of a turn of a stream: a fault of the ends is no fault of the turn.
+/// The result of a turn of a stream: a fault of the ends is no fault of the turn.
 pub type TurnOutcome = Result<Result<Part, ServeFault>, Fault>;
 
 /// How the two turns of a stream ended, what the task between them gave, and the files, closed
-/// after all three.
+/// after each of the three.
 #[derive(Drop)]
 pub struct TwoTurns<D: Disk, Given> {
     pub first: TurnOutcome,
@@ -100,8 +100,8 @@ pub struct TwoTurns<D: Disk, Given> {
 
 /// Serves a stream in two turns over the tables in the two files, with a task of another run
 /// between them, each as a server does a turn and a command its task. The files are closed after
-/// each, and those that came back are opened for the next. `None` says that once they were refused
-/// or could not be closed.
+/// each, and those that came back are opened for the next. `None` says that at one of these steps
+/// they were refused or could not be closed.
 pub fn served_in_turns<
     D: Disk + Drop,
     Given: Drop,

@@ -6,7 +6,7 @@ use Rattle.draft_core.specs.Transaction.{holder_of}
 use Rattle.office_machine.specs.declared.intersections.ListedIntersection.{ListedIntersection}
 use Rattle.office_machine.specs.Office.{Office, Intersection}
 
--- what the list of all intersections shows of an intersection, which stands under its number
+-- what the list of all intersections shows of an intersection, given with its number
 abbrev pub intersection_listed : ℕ × Intersection → ListedIntersection
 intersection_listed e = record {
   id = e.0;

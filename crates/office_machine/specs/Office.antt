@@ -21,7 +21,7 @@ pub record Office : Type 0 where
   pub intersections : FinMap nat_cmp Intersection
   pub register : Register
 
--- the timing side of an intersection; where there is none, the side with nothing committed and no draft
+-- the timing side of an intersection; without an intersection, the side with nothing committed and no draft
 abbrev pub side_of : Option Intersection → TimingSide
 side_of None = no_timing
 side_of (Some i) = i.timing

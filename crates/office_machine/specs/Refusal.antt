@@ -13,7 +13,7 @@ pub record RefusalLine : Type 0 where
   pub name : List ℕ
   pub status : ℕ
 
--- a refusal's number and name; the transaction and the register have tables of their own for theirs
+-- a refusal's number and name; those of the transaction and the register are in their own tables
 abbrev pub number_and_name : Refusal → ℕ × List ℕ
 number_and_name UnknownIntersection = (10, codes "UnknownIntersection")
 number_and_name IntersectionDiffers = (11, codes "IntersectionDiffers")
@@ -23,8 +23,8 @@ number_and_name (ImportRow at cause) = (30, codes "ImportRow")
 number_and_name Unavailable = (90, codes "Unavailable")
 number_and_name Damaged = (91, codes "Damaged")
 
--- a refusal's status code: 404 where an intersection or an order is unknown, 503 where memory or the database
--- refused, 500 where a stored row is no record, and 409 for each other refusal
+-- a refusal's status code: 404 if an intersection or an order is unknown, 503 if memory or the database refused, 500
+-- if a stored row is no record, and 409 for each other refusal
 abbrev pub status_of : Refusal → ℕ
 status_of UnknownIntersection = 404
 status_of (Cabinet cabinet.UnknownOrder) = 404

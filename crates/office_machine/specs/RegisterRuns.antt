@@ -18,15 +18,16 @@ use Rattle.office_machine.specs.declared.command.Command.TheVariants as command
 use Rattle.office_machine.specs.declared.reply.Reply.{Reply}
 use Rattle.office_machine.specs.declared.reply.Reply.TheVariants.{Added, Imported, OpenOrders, Stock}
 
--- ---- the records that are accepted
+-- ---- accepted records
 
--- the first list where a record is new by its line of the table, the second where it was there, and none where it is refused
+-- the first list if a record is new by its line of the table, the second if it was recorded already, and none if it
+-- is refused
 abbrev pub new_by : Line → (added same : List RecordCommand) → List RecordCommand
 new_by added_line added same = added
 new_by same_line added same = same
 new_by (refused_line why) added same = []
 
--- the records of an import that are new, each as it comes in its turn
+-- the records of an import that are new, each tested in its turn
 abbrev pub new_among : Register → List RecordCommand → List RecordCommand
 new_among r [] = []
 new_among r (c ∷ cs) = new_by (line_at r c) (c ∷ new_among (with_record r c) cs) (new_among r cs)
@@ -43,7 +44,7 @@ records_asked office (command.Record c) = c ∷ []
 records_asked office (command.Import records) = new_among office.register records
 records_asked office _ = []
 
--- the records that a command brought in, by its reply: none unless this accepts them
+-- the records that a command brought in, by its reply: none unless the reply accepts them
 abbrev pub accepted_of : Office → Command → Reply → List RecordCommand
 accepted_of office command reply = cond (is_accepted reply) (records_asked office command) []
 
@@ -56,7 +57,7 @@ records_accepted first (command ∷ commands) [] last run = []
 
 -- ---- what accepted records make of the register
 
--- an order of an office, by its intersection's number and its own, is there and open
+-- the order with this number on an intersection of an office exists and is open
 abbrev pub is_open_in : Office → ℕ → ℕ → Bool
 is_open_in office id n = is_open_at office.register id n
 
@@ -66,12 +67,13 @@ is_open_in office id n = is_open_at office.register id n
 abbrev pub is_among_numbers : List ℕ → ℕ → Bool
 is_among_numbers numbers n = list_any (λ m. m == n) numbers
 
--- the pieces of a part that a list of stock shows; none of a part that it does not name
+-- the pieces of a part that a list of stock shows; 0 if it does not name the part
 abbrev pub pieces_in : List (List ℕ × ℕ) → List ℕ → ℕ
 pieces_in stock code = on_hand (find (slice_cmp nat_cmp) code stock)
 
--- after records that were accepted from the first office on, a reply to OpenOrders shows the orders that they left open; and of each part, the pieces
--- that a reply to Stock shows and those that were used are as many as were on hand in the first office and were received
+-- after the records accepted since the first office, a reply to OpenOrders shows the orders that they left open; and
+-- for each part, the pieces that a reply to Stock shows plus those used since are those on hand in the first office
+-- plus those received since
 abbrev pub ShowsAccepted : Office → List RecordCommand → Command → Reply → Type 0
 ShowsAccepted first so_far (command.OpenOrders id) (OpenOrders numbers) =
     (n : ℕ) → is_among_numbers numbers n ≡ open_by id n (is_open_in first id n) so_far
@@ -87,8 +89,8 @@ ShowAccepted first so_far now (command ∷ commands) (reply ∷ replies) last ru
 ShowAccepted first so_far now [] (reply ∷ replies) last run = Unit {0}
 ShowAccepted first so_far now (command ∷ commands) [] last run = Unit {0}
 
--- an order is open after it was opened, not open after it was closed, else as before; and what is on hand and what was used is what
--- was on hand and what was received: at the end, and in each reply that shows it
+-- an order is open after it was opened, not open after it was closed, else as before; and for each part, what is on
+-- hand plus what was used is what was on hand plus what was received: at the end, and in each reply that shows it
 pub record RegisterRuns (first : Office) (commands : List Command) (replies : List Reply) (last : Office) (run : Run first commands replies last) : Type 0 where
   pub orders : (id n : ℕ) → is_open_in last id n ≡ open_by id n (is_open_in first id n) (records_accepted first commands replies last run)
   pub stock : (code : List ℕ) →

@@ -9,7 +9,8 @@ use Rattle.office_machine.specs.declared.refusal.Refusal.TheVariants.{Unavailabl
 use Rattle.office_machine.specs.declared.reply.Reply.{Reply}
 use Rattle.office_machine.specs.declared.reply.Reply.TheVariants.{Imported, Refused}
 
--- none of the records is new and each is there, or the import is answered Unavailable; and the office is as it was
+-- the import adds none of the records, since each is recorded already, or it is answered Unavailable; and the office
+-- is as it was
 abbrev pub IsRepeat : Office → List RecordCommand → Reply → Office → Type 0
 IsRepeat office records reply next = ((reply ≡ Imported 0 (length records)) ⊎ (reply ≡ Refused Unavailable)) × (next ≡ office)
 

@@ -37,33 +37,34 @@ with_intersection office id i = record office { intersections = insert office.in
 
 -- ---- AddIntersection
 
--- an intersection as it is added: no plan was committed, and nobody holds a draft
+-- a new intersection: no plan was committed, and nobody holds a draft
 abbrev pub new_intersection : ℕ → List ℕ → Intersection
 new_intersection interval name = record { name = name; interval = interval; timing = no_timing }
 
--- an intersection is added where none has its number; where one has, the office stays: the reply is Same if name and interval are
--- equal, else IntersectionDiffers
+-- an intersection is added if none has its number; if one has it, the office stays as it was: the reply is Same if
+-- name and interval are equal, else IntersectionDiffers
 abbrev pub add_step : Office → ℕ → ℕ → List ℕ → Option Intersection → Reply × Office
 add_step office id interval name None = (Added, with_intersection office id (new_intersection interval name))
 add_step office id interval name (Some i) = (if bytes_eq i.name name && (i.interval == interval) then Same else Refused refusal.IntersectionDiffers, office)
 
 -- ---- the transaction
 
--- a refusal of the transaction as one of the office: want of memory is Unavailable, any other keeps its number and name
+-- a refusal of the transaction as one of the office: NoMemory is Unavailable, any other keeps its number and name
 abbrev pub refusal_of_draft : DraftRefusal → Refusal
 refusal_of_draft draft.NoMemory = refusal.Unavailable
 refusal_of_draft why = refusal.Draft why
 
--- the reply that tells where the transaction stands: its revision, its state and the verdict on its draft
+-- the reply to an accepted step of the transaction: the revision, the state and the verdict on the draft
 abbrev pub moved_to : TimingSide → Reply
 moved_to side = Moved side.revision (state_of side.draft) (verdict_of side.draft)
 
--- a line of the transaction's table as reply and next office; a refusal leaves the office
+-- a line of the transaction's table as reply and next office; a refusal leaves the office as it was
 abbrev pub moved : Office → ℕ → Intersection → Result TimingSide DraftRefusal → Reply × Office
 moved office id i (Ok next) = (moved_to next, with_intersection office id (record i { timing = next }))
 moved office id i (Err why) = (Refused (refusal_of_draft why), office)
 
--- a step of the transaction on an intersection, by its line of the table; where no intersection is there, the reply is UnknownIntersection
+-- a step of the transaction on an intersection, by its line of the table; without an intersection, the reply is
+-- UnknownIntersection
 abbrev pub transacted : Office → ℕ → (TimingSide → Result TimingSide DraftRefusal) → Option Intersection → Reply × Office
 transacted office id line None = (Refused refusal.UnknownIntersection, office)
 transacted office id line (Some i) = moved office id i (line i.timing)
@@ -91,19 +92,19 @@ timing_shown i = record {
   rows = i.timing.committed;
 }
 
--- what the query Draft shows of a draft, with the rules that it breaks; where there is none, it is refused as NotTransaction
+-- what the query Draft shows of a draft, with the rules that it breaks; without a draft, the refusal NotTransaction
 abbrev pub draft_shown : Option Draft → Reply
 draft_shown None = Refused (refusal.Draft draft.NotTransaction)
 draft_shown (Some d) = Drafted (record { owner = d.owner; rows = d.set; violations = violations_of d.set })
 
--- what a query shows of an intersection that is there; of one that is not, the refusal UnknownIntersection
+-- what a query shows of an intersection; without one, the refusal UnknownIntersection
 abbrev pub shown : Option Intersection → (Intersection → Reply) → Reply
 shown None show = Refused refusal.UnknownIntersection
 shown (Some i) show = show i
 
 -- ---- the register
 
--- a refusal of the register as one of the office: want of memory is Unavailable, any other keeps its number and name
+-- a refusal of the register as one of the office: NoMemory is Unavailable, any other keeps its number and name
 abbrev pub refusal_of_record : CabinetRefusal → Refusal
 refusal_of_record cabinet.NoMemory = refusal.Unavailable
 refusal_of_record why = refusal.Cabinet why
@@ -126,17 +127,17 @@ cabinet_of (register.UsePart id line) = Some id
 cabinet_of (register.CloseOrder id order closing) = Some id
 cabinet_of (register.Receive delivery) = None
 
--- this answer, if the intersection that a command is about is there; else UnknownIntersection, which leaves the office
+-- this answer, if the command's intersection exists; else UnknownIntersection, which leaves the office as it was
 abbrev pub step_if_known : Office → Option Intersection → Reply × Office → Reply × Office
 step_if_known office None answer = (Refused refusal.UnknownIntersection, office)
 step_if_known office (Some i) answer = answer
 
--- what is answered to a command of the register about an intersection, or about none: an intersection has to be there
+-- the answer to a command of the register about an intersection, which has to exist, or about none
 abbrev pub recorded_at : Office → Option ℕ → Reply × Office → Reply × Office
 recorded_at office None answer = answer
 recorded_at office (Some id) answer = step_if_known office (get office.intersections id) answer
 
--- the intersection is there, or none is asked for
+-- the intersection exists, or none is named
 abbrev pub is_known : Office → Option ℕ → Bool
 is_known office None = true
 is_known office (Some id) = is_some (get office.intersections id)
@@ -147,14 +148,16 @@ is_known office (Some id) = is_some (get office.intersections id)
 abbrev pub with_recorded : Office → RecordCommand → Office
 with_recorded office c = record office { register = with_record office.register c }
 
--- what comes of a record of an import, where it has this number, counted from 1: it is added, or was there, or ends the import with its refusal
+-- what a record of an import does, at this place, counted from 1: it is added, or was recorded already, or ends the
+-- import with its refusal
 abbrev pub import_by : {X : Type 0} → (at : ℕ) (is_there : Bool) → Line → (added same : Result X Refusal) → Result X Refusal
 import_by at false line added same = Err (refusal.ImportRow at (line_of refusal.UnknownIntersection).number)
 import_by at true added_line added same = added
 import_by at true same_line added same = same
 import_by at true (refused_line why) added same = Err (refusal.ImportRow at (line_of (refusal_of_record why)).number)
 
--- the steps of records in turn: how many were added, how many were there, and the office after them; or the first refusal
+-- the steps of records in turn: how many were added, how many were recorded already, and the office after them; or
+-- the first refusal
 abbrev pub import_from : (at added same : ℕ) → Office → List RecordCommand → Result (ℕ × ℕ × Office) Refusal
 import_from at added same office [] = Ok (added, same, office)
 import_from at added same office (c ∷ cs) =
@@ -162,14 +165,14 @@ import_from at added same office (c ∷ cs) =
     (import_from (at + 1) (added + 1) same (with_recorded office c) cs)
     (import_from (at + 1) added (same + 1) office cs)
 
--- the reply to an import, and the next office: all of the records are in it, or a refusal leaves the office
+-- the reply to an import, and the next office: all of the records are in it, or a refusal leaves the office as it was
 abbrev pub import_step : Office → Result (ℕ × ℕ × Office) Refusal → Reply × Office
 import_step office (Ok done) = (Imported done.0 done.1, done.2)
 import_step office (Err why) = (Refused why, office)
 
 -- ---- reports
 
--- what is known of the inspections of an intersection
+-- what is known of an intersection and its inspections
 abbrev pub seen_of : Register → ℕ × Intersection → Seen
 seen_of r e = record { id = e.0; name = e.1.name; interval = e.1.interval; last = last_at r e.0 }
 
@@ -190,7 +193,7 @@ overdue_on office day = overdue_list day (map (seen_of office.register) (entries
 
 -- ---- the machine
 
--- the reply to a command, and the next office, as its own step has them
+-- the reply to a command, and the next office, as the command's own step gives them
 abbrev pub answered : Office → Command → Reply × Office
 answered office (command.AddIntersection id interval name) = add_step office id interval name (get office.intersections id)
 answered office (command.Begin id clerk) = transacted office id (table_line step.Begin clerk) (get office.intersections id)
@@ -211,18 +214,19 @@ answered office (command.OpenOrders id) = (shown (get office.intersections id) (
 answered office command.Stock = (Stock (stock_of office.register), office)
 answered office (command.Overdue day) = (Overdue (overdue_on office day), office)
 
--- A command takes its step, or is answered Unavailable and leaves the office.
+-- A command takes its step, or is answered Unavailable and leaves the office as it was.
 abbrev pub Step : Office → Command → Reply → Office → Type 0
 Step office command reply next = ((reply ≡ Refused refusal.Unavailable) × (next ≡ office)) ⊎ (answered office command ≡ (reply, next))
 
--- commands in turn, each with its reply: each takes its step from the office that the one before it left, from the first office to the last
+-- commands in turn, each with its reply: each takes its step in the office that the one before it left, from the
+-- first office to the last
 abbrev pub Run : Office → List Command → List Reply → Office → Type 0
 Run office [] [] last = last ≡ office
 Run office (command ∷ commands) (reply ∷ replies) last = (mid : Office) × Step office command reply mid × Run mid commands replies last
 Run office [] (reply ∷ replies) last = ⊥
 Run office (command ∷ commands) [] last = ⊥
 
--- every office of a run is sound, the first, those between and the last
+-- every office of a run is sound: the first, those in between and the last
 abbrev pub AreSound : (first : Office) (commands : List Command) (replies : List Reply) (last : Office) → Run first commands replies last → Type 0
 AreSound first [] [] last run = IsSound first
 AreSound first (command ∷ commands) (reply ∷ replies) last run = IsSound first × AreSound run.0 commands replies last run.2

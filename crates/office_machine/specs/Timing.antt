@@ -9,7 +9,7 @@ use Rattle.office_machine.specs.declared.reply.Reply.TheVariants.{Moved}
 use Rattle.office_machine.specs.Office.{Office, side_at}
 use Rattle.office_machine.specs.Step.{Run}
 
--- the command commits the draft of this intersection
+-- the command asks to commit the draft of this intersection
 abbrev pub is_commit_of : ℕ → Command → Bool
 is_commit_of id (command.Commit other clerk) = id == other
 is_commit_of id _ = false
@@ -19,7 +19,7 @@ abbrev pub is_moved : Reply → Bool
 is_moved (Moved revision state verdict) = true
 is_moved _ = false
 
--- the set of a draft; where there is no draft, the set that is given instead
+-- the set of a draft; without a draft, the set that is given instead
 abbrev pub set_of_draft : Option Draft → Rows → Rows
 set_of_draft None instead = instead
 set_of_draft (Some draft) instead = draft.set

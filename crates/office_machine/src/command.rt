@@ -1,4 +1,4 @@
-//! What the office is asked.
+//! What the office is asked to do.
 
 ghost use Rattle.std.specs.Prelude.{◌≡◌};
 
@@ -7,11 +7,11 @@ use cabinet_core::{Closing, Day, Delivery, Inspection, Opening, RecordCommand, U
 use draft_core::changes::Changes;
 use signal_records::{InterId, Interval, RecordNo, Words};
 
-/// What the office is asked. A clerk is who asks: only the one who began a transaction may go on
-/// with it, but any clerk may abandon it.
+/// What the office is asked to do. `clerk` is who asks: only the clerk who began a transaction may
+/// go on with it, but any clerk may abandon it.
 #[derive(Drop)]
 pub enum Command {
-    /// Adds an intersection; the same number, name and interval once more change nothing.
+    /// Adds an intersection; the same number, name and interval again change nothing.
     AddIntersection {
         id: InterId,
         /// Days from one inspection of its cabinet to the next.
@@ -44,7 +44,7 @@ pub enum Command {
         id: InterId,
         clerk: Words<40>,
     },
-    /// Takes a checked draft back into work.
+    /// Returns a checked draft to editing.
     Reopen {
         id: InterId,
         clerk: Words<40>,
@@ -68,7 +68,8 @@ pub enum Command {
     },
     /// Records what was done in a cabinet, or what came into stock.
     Record(RecordCommand),
-    /// Takes records into the register in turn, each after those before it: all of them, or none.
+    /// Takes records into the register in turn, each after the ones before it: all of them, or
+    /// none.
     Import {
         records: Records,
     },

@@ -4,7 +4,7 @@ use draft_core::revision::Revision;
 use draft_core::state::Holder;
 use signal_records::{InterId, Interval, Words};
 
-/// An intersection in the list of all of them. No draft is judged for it.
+/// An intersection in the list of all of them. To list it, no draft is judged.
 #[derive(Drop)]
 pub struct ListedIntersection {
     pub id: InterId,

@@ -1,6 +1,6 @@
-//! The office machine: what is asked of the office, what it answers, and what each command means.
-//! The desk stands on it, and so do the readers of requests and the writers of answers, which know
-//! no desk.
+//! The office machine: what the office is asked, what it answers, and what each command means. The
+//! desk, the readers of requests and the writers of answers use it; those readers and writers do
+//! not know the desk.
 #![tactic(auto)]
 
 pub mod command;

@@ -22,8 +22,8 @@ pub struct NamedOrder {
     pub listed: OpenOrder,
 }
 
-/// Appends the open orders of a cabinet, in the order of their numbers. `NoMemory` means that a
-/// growth was refused; some may be appended by then.
+/// Appends the open orders of a cabinet, in the order of their numbers. After `NoMemory` some may
+/// be appended.
 pub fn add_open_orders(found: &mut Vec<OpenOrder>, cabinet: &CabinetShown) -> Result<(), NoMemory>
     ensures { OnOk result (found.new.items ≡ found.old.items ++ open_orders cabinet.now) }
 {
@@ -51,9 +51,8 @@ fn order_named(name: &Words<120>, id: InterId, order: &Order) -> Result<NamedOrd
     })
 }
 
-/// Appends those of an intersection's orders that are open, in their order, each with the number
-/// and the name of the intersection. `NoMemory` means that a growth was refused; some may be
-/// appended by then.
+/// Appends the open ones among an intersection's orders, in their order, each with the number and
+/// the name of the intersection. After `NoMemory` some may be appended.
 pub fn add_named(
     found: &mut Vec<NamedOrder>,
     name: &Words<120>,
@@ -73,8 +72,7 @@ pub fn add_named(
 }
 
 /// Appends the open orders of a cabinet, in the order of their numbers, each with the number and
-/// the name of its intersection. `NoMemory` means that a growth was refused; some may be appended
-/// by then.
+/// the name of its intersection. After `NoMemory` some may be appended.
 pub fn add_named_orders(
     found: &mut Vec<NamedOrder>,
     name: &Words<120>,

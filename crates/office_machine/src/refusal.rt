@@ -1,5 +1,5 @@
-//! Why a command is refused: one table of numbers, names and status codes, with those of the
-//! transaction and of the register in it.
+//! Why a command is refused: one table of numbers, names and status codes, which includes the
+//! tables of the transaction and of the register.
 
 ghost use Rattle.std.specs.Prelude.{◌≡◌};
 ghost use Rattle.office_machine.specs.Refusal.{line_of};
@@ -12,14 +12,14 @@ use draft_core::refusal::DraftRefusal;
 pub enum Refusal {
     /// There is no such intersection.
     UnknownIntersection,
-    /// The intersection is there with another name or interval.
+    /// The intersection exists with another name or interval.
     IntersectionDiffers,
-    /// The transaction refuses. Want of memory is reported as Unavailable.
+    /// The transaction refuses. Its `NoMemory` is reported as Unavailable.
     Draft(DraftRefusal),
-    /// The register refuses. Want of memory is reported as Unavailable.
+    /// The register refuses. Its `NoMemory` is reported as Unavailable.
     Cabinet(CabinetRefusal),
-    /// A record of an import is refused, the first that is: which one, counted from 1, and the
-    /// number of its refusal.
+    /// The first record of an import that is refused: its place, counted from 1, and the number of
+    /// its refusal.
     ImportRow { at: usize, cause: u32 },
     /// Memory or the database refused; nothing was changed.
     Unavailable,

@@ -28,8 +28,8 @@ pub struct IntersectionState {
     pub verify: Verdict,
 }
 
-/// The committed timing set as the query Timing shows it. The name is there for a sheet, which is
-/// made of this reply alone; an answer in JSON has no name.
+/// The committed timing set as the query Timing shows it. The name is for a sheet, which is made
+/// from this reply alone; an answer in JSON has no name.
 #[derive(Drop)]
 pub struct RunningTiming {
     /// The intersection's name.
@@ -112,7 +112,7 @@ impl OverdueList {
         self.rows.as_slice()
     }
 
-    /// The overdue intersections as a list of its own, which takes no further memory.
+    /// The overdue intersections as a list of their own, without further memory.
     pub fn into_vec(self) -> Vec<OverdueRow>
         ensures { map listed_of result.items ≡ self }
     {
@@ -124,17 +124,18 @@ impl OverdueList {
 /// What the office answers.
 #[derive(Drop)]
 pub enum Reply {
-    /// The record, the closing of an order or the intersection was not there, and is now.
+    /// The record, the closing of an order or the intersection is new, and was added.
     Added,
-    /// An equal record or closing, or an intersection with the same name and interval, was there.
+    /// An equal record or closing, or an intersection with the same name and interval, existed
+    /// already.
     Same,
-    /// A step of the transaction was made, and this is where it stands.
+    /// A step of the transaction was made, and led to this state.
     Moved {
         revision: Revision,
         state: DbState,
         verdict: Verdict,
     },
-    /// The records of an import: how many were not there, and are now, and how many were there.
+    /// All records of an import were taken: how many were new, and how many existed already.
     Imported {
         added: usize,
         same: usize,

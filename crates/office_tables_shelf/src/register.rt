@@ -1,4 +1,4 @@
-//! Where the rows of the register stand, and the records that stand there.
+//! The keys of the register's rows, and the records under them.
 
 ghost use Rattle.std.specs.Prelude.{◌≡◌};
 ghost use Rattle.office_tables_shelf.specs.Places.{found_inspection, found_order, found_line, found_hand, found_delivery};
@@ -6,16 +6,16 @@ ghost use Rattle.office_tables_shelf.specs.Places.{found_inspection, found_order
 use cabinet_core::{Delivery, Hand, Inspection, Order, PartCode, UsedLine};
 use signal_records::{InterId, LineNo, RecordNo};
 
-/// Where a row of the register stands: its table, and its key there.
+/// The key of a row of the register, which also says its table.
 #[derive(Drop)]
 pub enum RegisterKey<'a> {
     /// An intersection, and the number of an inspection of its cabinet.
     Inspection(InterId, RecordNo),
     /// An intersection, and the number of an order on it.
     Order(InterId, RecordNo),
-    /// An intersection, the number of an order on it, and the line of a part used for that.
+    /// An intersection, the number of an order on it, and the line of a part used for the order.
     Line(InterId, RecordNo, LineNo),
-    /// A part, of which so many are on hand.
+    /// A part; its row says how many are on hand.
     Part(&'a PartCode),
     /// A part, and the number of a delivery of it.
     Delivery(&'a PartCode, RecordNo),
@@ -63,7 +63,7 @@ impl RegisterRecord {
         }
     }
 
-    /// How many of a part were found on hand, if there ever was a delivery of it.
+    /// How many of a part are on hand, if its row was found.
     pub fn hand(found: Option<RegisterRecord>) -> Option<Hand>
         ensures { result ≡ found_hand found }
     {

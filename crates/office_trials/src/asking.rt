@@ -8,7 +8,7 @@ use office_tables_shelf::shelf::Shelf;
 use std::alloc::Global;
 use std::process::Abort;
 
-/// What ends a test that fails, and what gives memory.
+/// What ends a test that fails, and the allocator.
 pub(crate) type Bench<R> = (R, Global);
 
 /// A new office over maps.
@@ -21,14 +21,15 @@ pub(crate) fn copy(rt: &Bench<impl Abort>, bytes: &[u8]) -> Vec<u8> {
     Vec::from_slice(rt.1, bytes).expect(rt, "memory")
 }
 
-/// Fails the test where what came is not what was wanted.
+/// Fails the test if what came is not what was wanted.
 pub(crate) fn same(rt: &Bench<impl Abort>, what: &str, wanted: &[u8], came: &[u8]) {
     let wants = String::from_utf8_lossy(rt.1, wanted).expect(rt, "memory");
     let seen = String::from_utf8_lossy(rt.1, came).expect(rt, "memory");
     assert!(rt; wanted == came, "{what}: wanted {wants}, came {seen}");
 }
 
-/// The bytes of messages, each a first line between `before` and `behind`, a bar, and its content.
+/// The bytes of messages, each given as a first line, to be put between `before` and `behind`, a
+/// bar, and its content.
 fn bytes_of_messages(rt: &Bench<impl Abort>, lines: &[&str], before: &str, behind: &str) -> String {
     let mut bytes = String::new(rt.1);
     for message in lines {
@@ -81,10 +82,11 @@ pub(crate) fn state_of<S: Shelf>(rt: &Bench<impl Abort>, office: &mut Office<S>)
     answers_to(rt, office, &QUERIES)
 }
 
-/// Requests between semicolons, each content behind a bar. Intersection 12 is added and shown, and
-/// a plan of eleven rows committed; a draft is abandoned, records are imported and come again after
-/// a closing, the stock is filled, and one record of each other kind is taken. Four changed rows
-/// are committed; at last a row is removed, put back as it is committed, twice, and removed.
+/// Requests, separated by semicolons, each with its content after a bar. Intersection 12 is added
+/// and shown, and a plan of eleven rows committed; a draft is abandoned, records are imported and
+/// come again after a closing, the stock is filled, and one record of each other kind is taken.
+/// Four changed rows are committed; at last a row is removed, put back twice as it is committed,
+/// and removed.
 fn requests_text() -> &'static str {
     "POST /intersections|{\"id\":12,\"interval\":365,\"name\":\"Main St\"};GET /intersections/12;\
     POST /intersections/12/begin|{\"clerk\":\"Ana\"};\
@@ -161,12 +163,13 @@ pub(crate) fn script_of(rt: &Bench<impl Abort>, count: usize) -> Script {
     }
 }
 
-/// The answer that stands in place of one for which memory or the store was refused.
+/// The answer in place of one for which memory or the store was refused.
 const UNAVAILABLE: &[u8] = b"HTTP/1.1 503 Service Unavailable\r\nContent-Type: application/json\r\n\
     Content-Length: 35\r\n\r\n{\"error\":\"Unavailable\",\"number\":90}";
 
 /// Makes the requests of a script from number `from` on, and gives the number of the first that is
-/// answered as unavailable, or of all. The test fails where another answer is not the script's.
+/// answered as unavailable, or the count of all. The test fails if another answer is not the
+/// script's.
 pub(crate) fn play<S: Shelf>(
     rt: &Bench<impl Abort>,
     office: &mut Office<S>,

@@ -1,5 +1,5 @@
-//! The two ends of a stream in memory: a reader that ends, fails, waits or goes on behind its
-//! bytes, and a writer that has room for so many.
+//! The two ends of a stream in memory: a reader that ends, fails, waits or goes on after its bytes,
+//! and a writer with limited room.
 
 use crate::asking::Bench;
 use office_desk::office::Office;
@@ -13,8 +13,8 @@ use std::io;
 use std::io::{ErrorKind, Read, Write};
 use std::process::Abort;
 
-/// What comes behind the bytes of a reader, again and again, once the writer took so many bytes. A
-/// read before that fails.
+/// What comes after the bytes of a reader, again and again, once the writer has taken so many
+/// bytes. A read before that fails.
 type After<'a> = (&'a [u8], usize);
 
 pub(crate) const END: After<'static> = (b"", 0);
@@ -79,8 +79,9 @@ impl Write for Taker<'_> {
     }
 }
 
-/// Serves so many requests of a stream at most. Tells how it ended and after how many requests, and
-/// what a writer took that has so much room. Each call of an end is one of its reader or writer.
+/// Serves at most `limit` requests of a stream. Gives how it ended and after how many requests, and
+/// what a writer with this room took. Each counted call of an end must be one of its reader or
+/// writer.
 pub(crate) fn serve_ends<S: Shelf>(
     rt: &Bench<impl Abort>,
     office: &mut Office<S>,
@@ -116,7 +117,7 @@ pub(crate) fn serve_ends<S: Shelf>(
     (ended, sink.writer.bytes)
 }
 
-/// A source that pauses before each second step.
+/// A source that pauses once before each step.
 #[derive(Drop)]
 struct Pausing<'a> {
     source: FromRead<Feed<'a>>,
@@ -142,8 +143,8 @@ impl Source for Pausing<'_> {
     }
 }
 
-/// Serves a stream in parts, by reads of so many bytes at most, with a pause before each step.
-/// Tells how many requests were answered, how often it paused and was read, and what a writer took.
+/// Serves a stream in parts, by reads of at most `most` bytes, with a pause before each step. Gives
+/// how many requests were answered, how often it paused and was read, and what a writer took.
 pub(crate) fn serve_in_parts<S: Shelf>(
     rt: &Bench<impl Abort>,
     office: &mut Office<S>,

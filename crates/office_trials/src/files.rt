@@ -53,24 +53,25 @@ pub(crate) enum Work<'a> {
     Serve(&'a [&'a str]),
     /// An office makes the script in each way, by reads of so many bytes at most.
     Script(&'a Script, usize),
-    /// The tables of a new office become such of version 1, with rows.
+    /// The tables of a new office become tables of version 1, with rows.
     Age,
     /// Tables of version 1, with those rows, become today's.
     Migrate,
 }
 
-/// What tables of version 1 show, and what a migration shows that is done.
+/// What tables of version 1 show, and what a migration shows when it is done.
 const OLD: &[u8] = b"version 1";
 
 const MIGRATED: &[u8] = b"migrated";
 
-/// What makes tables of version 1 of a new office's: a phase, and the draft of it of a clerk.
+/// What turns the tables of a new office into those of version 1: with a phase, and a clerk's draft
+/// of it.
 const AGE: &str = "UPDATE office_version SET version = 1;
 INSERT INTO intersection VALUES (12, 'Main St', 365, 1, 1, 'Ana');
 INSERT INTO timing VALUES (12, 1, 2, 0, 'phase,2,1,8,20,40,40,15,,7,12,490,60,0');
 INSERT INTO draft VALUES (12, 1, 2, 0, 'phase,2,1,8,20,40,40,15,,7,12,480,60,0')";
 
-/// Makes the tables of a new office in a database, and makes them such of version 1.
+/// Makes the tables of a new office in a database, and turns them into those of version 1.
 fn with_old_tables<S: Alter + Drop>(rt: &Bench<impl Abort>, conn: Connection<S>) -> Connection<S> {
     let shelf = SqlShelf::open(rt.1, conn).ok();
     let mut conn = shelf.expect(rt, "new tables").into_conn();
@@ -153,7 +154,7 @@ fn database<D: Disk + Drop>(
     }
 }
 
-/// Closes a database. Tells whether that was done, and gives its files.
+/// Closes a database. Gives whether that was done, and its files.
 fn close<D: Disk + Drop>(left: Left<FileStore<D>>) -> (bool, Files<D>) {
     match left {
         Ok(conn) => match conn.close_files() {
@@ -187,7 +188,7 @@ pub(crate) fn after(rt: &Bench<impl Abort>, start: &[u8], work: Work<'_>) -> (Ve
     (shown, copy(rt, files.db.inner().bytes()))
 }
 
-/// The files hold what they did before the step that was stopped, or after it.
+/// The files must hold what they did before the step that was stopped, or after it.
 fn are_whole(rt: &Bench<impl Abort>, files: Pair, script: &Script, done: usize) {
     let (seen, ..) = over_files(rt, files, Work::Show);
     let before = script.states.get(done).expect(rt, "a state");
@@ -198,7 +199,8 @@ fn are_whole(rt: &Bench<impl Abort>, files: Pair, script: &Script, done: usize) 
 }
 
 /// Stops the log or the tables, which begin with these bytes, at each call in turn, until all work
-/// is done before it. The files are opened again with all that was written, and what was synced.
+/// is done before the stop. The files are opened again with all that was written, and then with
+/// only what was synced.
 fn stop_each(rt: &Bench<impl Abort>, start: &[u8], work: Work<'_>, script: &Script, is_log: bool) {
     let mut stopped = 0u64;
     for calls in 0..10_000u64 {
@@ -216,7 +218,8 @@ fn stop_each(rt: &Bench<impl Abort>, start: &[u8], work: Work<'_>, script: &Scri
     assert!(rt; stopped > 0 && stopped < 10_000, "{stopped} stops");
 }
 
-/// Stops the log and then the tables while requests are served, so many, from these tables.
+/// Stops the log, and then the tables, while the first `count` requests are served over these
+/// tables.
 fn stop_stream(rt: &Bench<impl Abort>, start: &[u8], count: usize) {
     let script = script_of(rt, count);
     let work = Work::Serve(&script.requests);
@@ -224,8 +227,8 @@ fn stop_stream(rt: &Bench<impl Abort>, start: &[u8], count: usize) {
     stop_each(rt, start, work, &script, false);
 }
 
-/// Stops a stream that adds and shows an intersection and begins a transaction, from files that are
-/// empty; and from new tables one that commits a plan too, abandons a draft, and imports records.
+/// Stops a stream over empty files that adds and shows an intersection and begins a transaction;
+/// and one over new tables that also commits a plan, abandons a draft, and imports records.
 #[test]
 fn streams_are_stopped(host: HostRuntime) {
     let rt = (&host, host.alloc());

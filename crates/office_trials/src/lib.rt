@@ -1,6 +1,6 @@
-//! Trials by calls of what no row of the program shows: commands as a list, and streams, over maps
-//! and a database; a shelf, ends of a stream, and files that fail at each call; connections; how
-//! many rows a step writes; and the public calls that the program does not make.
+//! Trials, by calls, of what no test row of the program shows: commands as a list, and streams,
+//! over maps and a database; a shelf, ends of a stream, and files that fail at each call;
+//! connections; how many rows a step writes; and the public calls that the program does not make.
 #![tactic(auto)]
 
 #[cfg(test)]

@@ -17,7 +17,7 @@ use std::process::Abort;
 /// What a call of a shelf gives.
 type Found<T> = Result<T, ShelfFault>;
 
-/// Tables in memory that refuse one call, with the calls that a plan makes which is committed.
+/// Tables in memory that refuse one call. They take only the calls that committing a plan makes.
 #[derive(Drop)]
 struct Refusing {
     inner: MapShelf,
@@ -122,7 +122,7 @@ fn play_refusing(rt: &Bench<impl Abort>, script: &Script, left: u32) -> (usize, 
     (n, shelf.inner)
 }
 
-/// An office shows what was there before a request, and this and the others are done.
+/// An office must show what was there before a request, and then do this one and the others.
 fn goes_on<S: Shelf>(rt: &Bench<impl Abort>, office: &mut Office<S>, script: &Script, n: usize) {
     let before = script.states.get(n).expect(rt, "a state");
     same(rt, "tables after a refusal", before, &state_of(rt, office));

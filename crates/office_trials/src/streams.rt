@@ -12,7 +12,8 @@ use std::io::Write;
 use std::net::{Ipv4Addr, Shutdown, SocketAddr, TcpListener, TcpStream};
 use std::process::Abort;
 
-/// What must be answered to the first requests, of 93, 53 and 76 bytes: 89, 184 and 126 bytes.
+/// The answers to the first seven requests. The first three have 93, 53 and 76 bytes, and their
+/// answers 89, 184 and 126.
 static ANSWERS: [&str; 7] = [
     r#"200 OK|{"result":"added"}"#,
     "200 OK|{\"id\":12,\"interval\":365,\"name\":\"Main St\",\"owner\":null,\"revision\":0,\
@@ -24,18 +25,19 @@ static ANSWERS: [&str; 7] = [
     r#"200 OK|{"revision":1,"state":"normal","verify":"notDone"}"#,
 ];
 
-/// Two equal lengths, and behind them a request that would add an intersection.
+/// A request with two equal lengths, and after it one that would add an intersection.
 const TWO_LENGTHS: &[u8] =
     b"POST /import HTTP/1.1\r\nContent-Length: 2\r\nContent-Length: 2\r\n\r\n{}\
     POST /intersections HTTP/1.1\r\nContent-Length: 41\r\n\r\n\
     {\"id\":12,\"interval\":365,\"name\":\"Main St\"}";
 
-/// The one answer to them, and the answer where there is no such intersection.
+/// The one answer to `TWO_LENGTHS`, and the answer if there is no such intersection.
 static REFUSED: [&str; 1] = [r#"400 Bad Request|{"error":"Length","number":3}"#];
 
 static UNKNOWN: [&str; 1] = [r#"404 Not Found|{"error":"UnknownIntersection","number":10}"#];
 
-/// Serves a stream that ends in so many requests, by such reads. Its answers must be these.
+/// Serves bytes, by reads of so many at most. The stream must end after `requests` requests, with
+/// these answers.
 fn serve_as<S: Shelf>(
     rt: &Bench<impl Abort>,
     office: &mut Office<S>,
@@ -52,7 +54,8 @@ fn serve_as<S: Shelf>(
 }
 
 /// Serves streams by reads of so many bytes at most. Two equal lengths end the first, so that
-/// nothing is added; then come two requests, none, and five that commit a plan.
+/// nothing is added; then come a request for the missing intersection, two requests, none, and five
+/// that commit a plan.
 pub(crate) fn serve_worked<S: Shelf>(
     rt: &Bench<impl Abort>,
     office: &mut Office<S>,
@@ -72,9 +75,9 @@ pub(crate) fn serve_worked<S: Shelf>(
     }
 }
 
-/// A reader fails or ends behind so many bytes, never ends, or gives its second request only once
-/// the answer to the first was taken, and is not called before. A writer takes none; it takes 100
-/// bytes, and then none; or it fails then. So many bytes of the answers are taken.
+/// A reader fails or ends after so many bytes, never ends, or gives its second request only once
+/// the answer to the first was taken, and is not called before. A writer takes no byte, or takes
+/// 100 bytes and then none, or fails after these. So many bytes of the answers are taken.
 #[test]
 fn ends_fail_and_wait(host: HostRuntime) {
     let rt = (&host, host.alloc());
@@ -148,7 +151,7 @@ fn gets(rt: &Bench<impl Abort>, connection: Option<TcpStream>, answers: [&str; 2
 }
 
 /// Two connections wait, and each gets its own two answers: the first adds the intersection, and
-/// the second finds it there. Two laws are there to be called.
+/// the second finds it there. It also calls the two laws.
 #[test]
 fn two_connections_are_served(host: HostRuntime) {
     let rt = (&host, host.alloc());

@@ -1,5 +1,5 @@
 //! One script over maps and over a database, by streams, as a list of commands, and request by
-//! request: it is answered equally, and the same is there after it.
+//! request: both answer it equally, and hold the same after it.
 
 use crate::asking::{Bench, Script, answers_to, bytes_of, in_maps, same, script_of, state_of};
 use crate::files::{Work, after};
@@ -18,13 +18,14 @@ const STREAMED: usize = 7;
 
 const LISTED: usize = 19;
 
-/// How many committed rows and draft rows, two digits and two, are written before the requests that
-/// come one by one, and by each of these. Plans of eleven rows, of two that are abandoned, and then
-/// of six of which four are changed; in the last draft a row is removed, put back as it is
-/// committed, twice, and removed. A draft that is dropped counts each of its rows.
+/// How many committed rows (the first two digits) and draft rows (the last two) are written before
+/// the requests that come one by one, and by each of these. First come a plan of eleven rows and a
+/// draft of two, which is abandoned; then a draft of six, four of them changed; in the last draft a
+/// row is removed, put back twice as it is committed, and removed. A draft that is dropped counts
+/// each of its rows.
 static WRITES: [u64; 14] = [11_26, 0, 4, 0, 0, 4_04, 0, 1, 1, 0, 1, 0, 0, 1_01];
 
-/// A command, made of its record if it is one of the register.
+/// A command; one of the register is made again from its record.
 fn of_record(command: Command) -> Command {
     let record = match command {
         Command::Record(record) => record,
@@ -84,7 +85,8 @@ fn run_counted<S: Shelf>(rt: &Bench<impl Abort>, office: &mut Office<S>, script:
     }
 }
 
-/// Makes the script by an office with new tables, by such reads, and gives what is shown then.
+/// Runs the script by an office with new tables, its streams by reads of at most `most` bytes, and
+/// gives what the office shows then.
 pub(crate) fn play_all<S: Shelf>(
     rt: &Bench<impl Abort>,
     office: &mut Office<S>,

@@ -1,5 +1,5 @@
-//! Rings that do not fill the cycle, and lack exactly what another ring times beside them: they
-//! have no phase there, not one that rests.
+//! Rings that fall short of the cycle by exactly the time of another ring's phases with which none
+//! of theirs may time: there they have no phase at all, not one that rests.
 
 use signal_records::{NoMemory, Pattern, PatternNo, PhaseNo, RingNo, TimingSet};
 use signal_rules::{
@@ -9,7 +9,7 @@ use signal_rules::{
 use std::alloc::{AllocError, Global};
 use std::fmt::Write;
 
-/// The phases of a ring, by number, with which no phase of another ring may time.
+/// The phases of a ring, by number, that list no phase of another ring.
 fn phases_beside(
     alloc: Global,
     set: &TimingSet,
@@ -29,7 +29,7 @@ fn phases_beside(
     Ok(found)
 }
 
-/// Whether a phase of the set is of a ring.
+/// Whether a phase of the set is in a ring.
 fn is_of(set: &TimingSet, p: PhaseNo, ring: RingNo) -> bool {
     phase_at(set, p).is_some_and(|phase| phase.ring == ring)
 }
@@ -41,8 +41,8 @@ fn seconds_of(set: &TimingSet, pattern: &Pattern, phases: &[PhaseNo]) -> u32 {
     })
 }
 
-/// The first ring whose phases, of those with which no phase of `short` may time, have exactly so
-/// many seconds in a pattern, with these phases.
+/// The first other ring whose phases that list no phase of `short` have exactly so many seconds in
+/// a pattern, and these phases.
 fn rest_of(
     alloc: Global,
     set: &TimingSet,
@@ -63,7 +63,7 @@ fn rest_of(
     Ok(None)
 }
 
-/// Appends which ring times what a ring lacks, and in which phases.
+/// Appends which ring times what a ring lacks, and with which phases.
 fn push_found(text: &mut String, ring: RingNo, phases: &[PhaseNo]) -> Result<(), AllocError> {
     write!(
         text,
@@ -76,7 +76,7 @@ fn push_found(text: &mut String, ring: RingNo, phases: &[PhaseNo]) -> Result<(),
     Ok(())
 }
 
-/// What is told behind the reason why a ring of a pattern does not fill the cycle.
+/// What is added after the reason why a ring of a pattern falls short of the cycle.
 fn remark_on(
     alloc: Global,
     set: &TimingSet,
@@ -94,7 +94,7 @@ fn remark_on(
     Ok(text)
 }
 
-/// The ring that a reason names and how many seconds it lacks of the cycle, if that is the reason.
+/// The ring that a reason names and the seconds that it lacks of the cycle, if that is the reason.
 fn lack_of(reason: &Reason) -> Option<(RingNo, u32)> {
     match reason {
         Reason::Pattern(PatternReason::OtherSum { ring, sum, cycle }) if *sum < cycle.get() => {
@@ -104,9 +104,9 @@ fn lack_of(reason: &Reason) -> Option<(RingNo, u32)> {
     }
 }
 
-/// What is told behind a reason why a plan breaks a rule: where a ring does not fill the cycle by
-/// exactly the splits of another ring with whose phases none of its own may time, which these are.
-/// Else nothing. `NoMemory` means that a growth was refused.
+/// What is added after a reason why a plan breaks a rule: if a ring falls short of the cycle by
+/// exactly the splits of another ring's phases that list none of its own, that ring and these
+/// phases; else nothing.
 pub(crate) fn rest_remark(
     alloc: Global,
     set: &TimingSet,
@@ -122,8 +122,8 @@ pub(crate) fn rest_remark(
 }
 
 /// A line for each violation of a plan with its reason, in order, as `pattern 1 V10: offset 60 s,
-/// cycle 60 s`, and what is told behind that; or the one line `no violations`. Each line ends in a
-/// line feed. `NoMemory` means that a growth was refused.
+/// cycle 60 s`, and what is added after it; or the one line `no violations`. Each line ends in a
+/// line feed.
 pub fn reasons_text(
     alloc: Global,
     set: &TimingSet,

@@ -5,8 +5,7 @@ ghost use Rattle.safe_markup.specs.Escaping.{escaped_byte, escaped_text, marks, 
 
 use std::alloc::AllocError;
 
-/// Appends a character; in place of `&`, `<`, `>` and the two quotes, the entity that stands for
-/// it.
+/// Appends a character; in place of `&`, `<`, `>` and the two quotes, the entity for it.
 fn push_character(text: &mut String, c: char) -> Result<(), AllocError>
     ensures { OnOk result (string_bytes text.new
         ≡ string_bytes text.old ++ flat_map escaped_byte (encode_utf8 c)) }
@@ -21,8 +20,8 @@ fn push_character(text: &mut String, c: char) -> Result<(), AllocError>
     }
 }
 
-/// Appends the words of others. They add no `<`, no `>` and no quote, and whoever reads the page
-/// takes them as they were.
+/// Appends the words of others. They add no `<`, no `>` and no quote, and a browser reads them
+/// unchanged.
 pub(crate) fn push_escaped(text: &mut String, words: &str) -> Result<(), AllocError>
     ensures written { OnOk result
         (string_bytes text.new ≡ string_bytes text.old ++ escaped_text words.now) }

@@ -7,7 +7,7 @@ use std::alloc::Global;
 use std::fmt::{self, Display, Write};
 use std::marker::Model;
 
-/// Markup that grows at its end. Tags come by `own`, from constants of the program alone. Whatever
+/// Markup that grows at its end. Tags come only by `own`, from constants of the program. Whatever
 /// is written by `write!` is text, in which each character stands for itself. It is seen as its
 /// bytes.
 #[derive(Drop)]
@@ -39,7 +39,7 @@ impl Markup {
     }
 
     /// Appends tags and words of the program's own. What was read from a file, a request or a table
-    /// is no `&'static str`, so it cannot come here. The error means that a growth was refused.
+    /// is no `&'static str`, so it cannot come here.
     pub fn own(&mut self, own: &'static str) -> fmt::Result
         ensures { OnOk result (self.new ≡ self.old ++ own.now) }
     {
@@ -47,7 +47,7 @@ impl Markup {
         Ok(())
     }
 
-    /// Appends other markup. The error means that a growth was refused.
+    /// Appends other markup.
     pub fn append(&mut self, other: &Markup) -> fmt::Result
         ensures { OnOk result (self.new ≡ self.old ++ other.now) }
     {
@@ -55,7 +55,7 @@ impl Markup {
         Ok(())
     }
 
-    /// Appends words between tags. The error means that a growth was refused.
+    /// Appends words between tags.
     pub fn enclose<D: Display>(
         &mut self,
         opening: &'static str,

@@ -1,5 +1,5 @@
--- The chart of a pattern, which a reader takes from its picture: which phase each ring has from
--- which second of the cycle to which, and where all rings change phase.
+-- The chart of a pattern, which a reader takes from its picture: which phase each ring has from which second of the
+-- cycle to which, and where all rings change phase.
 use Rattle.std.specs.Prelude.{◌≡◌, ℕ, ◌+◌, ◌==◌, ◌&&◌, ◌||◌, not, max, if◌then◌else◌, nat_lt, nat_le, ⊤, Bool, List, [], ◌∷◌, All, map, filter, find, length, Option, option_map, slice_get}
 use Rattle.std.specs.List.{list_any, list_all, fold, range_with_len}
 use Rattle.signal_records.specs.declared.record.Pattern.{Pattern}
@@ -23,7 +23,7 @@ bars_from time from [] = []
 bars_from time from (p ∷ ps) =
     record { phase = p; from = from; to = from + time p } ∷ bars_from time (from + time p) ps
 
--- the lane of a ring: the phases of its row of the pattern's sequence that have time by the
+-- the lane of a ring: the phases in its row of the pattern's sequence, without those that have no time in the
 -- pattern's splits
 abbrev pub lane_of : Rows → Pattern → ℕ → RingLane
 lane_of set pattern ring =
@@ -34,7 +34,7 @@ lane_of set pattern ring =
 abbrev pub lanes_of : Rows → Pattern → List RingLane
 lanes_of set pattern = map (lane_of set pattern) (used_rings set)
 
--- the second at which the last of these phases ends; where there is none, the given one
+-- the second at which the last of these phases ends; the given one if there is none
 abbrev pub end_of : ℕ → List Bar → ℕ
 end_of second bars = fold (λ _ bar. bar.to) second bars
 
@@ -42,7 +42,7 @@ end_of second bars = fold (λ _ bar. bar.to) second bars
 abbrev pub lanes_end : ℕ → List RingLane → Bool
 lanes_end cycle lanes = list_all (λ shown. end_of 0 shown.bars == cycle) lanes
 
--- the largest of a number of seconds and the seconds at which lanes end
+-- the greatest of a number of seconds and the seconds at which lanes end
 abbrev pub longest : ℕ → List RingLane → ℕ
 longest seconds lanes = fold (λ most shown. max most (end_of 0 shown.bars)) seconds lanes
 
@@ -53,26 +53,24 @@ abbrev pub changes : ℕ → ℕ → RingLane → Bool
 changes ends begins shown =
     list_any (λ bar. bar.to == ends) shown.bars && list_any (λ bar. bar.from == begins) shown.bars
 
--- each ring has a phase that ends at one second, and one that begins at another; where there is no
--- ring nothing changes
+-- each ring has a phase that ends at one second, and a phase that begins at another; without a ring nothing changes
 abbrev pub all_change : ℕ → ℕ → List RingLane → Bool
 all_change ends begins lanes = nat_lt 0 (length lanes) && list_all (changes ends begins) lanes
 
--- a line stands at the end of the cycle, and before it where all rings change phase: none at
--- second 0, where no phase ends
+-- a line is at the end of the cycle, and before it where all rings change phase: none at second 0, where no phase
+-- ends
 abbrev pub has_line : ℕ → List RingLane → ℕ → Bool
 has_line cycle lanes second = second == cycle || all_change second second lanes
 
--- the seconds at which a line stands, ascending
+-- the seconds at which there is a line, ascending
 abbrev pub line_seconds : ℕ → List RingLane → List ℕ
 line_seconds cycle lanes = filter (has_line cycle lanes) (range_with_len 1 cycle)
 
--- the second at which the phases behind a line begin: 0 behind the end of the cycle, where the
--- first ones follow
+-- the second at which the phases after a line begin: 0 after the end of the cycle, where the first ones follow
 abbrev pub behind : ℕ → ℕ → ℕ
 behind cycle second = if second == cycle then 0 else second
 
--- a phase may time together with none of a lane that begins at a second
+-- a phase may time together with no phase of a lane that begins at a second
 abbrev pub conflicts_with_lane : Rows → ℕ → ℕ → RingLane → Bool
 conflicts_with_lane set begins p shown = list_all (λ bar. not (bar.from == begins) || not (list_each_other set p bar.phase)) shown.bars
 
@@ -84,7 +82,7 @@ conflicts_with_all set begins p lanes = list_all (conflicts_with_lane set begins
 abbrev pub lane_conflicts : Rows → ℕ → ℕ → List RingLane → RingLane → Bool
 lane_conflicts set ends begins lanes shown = list_all (λ bar. not (bar.to == ends) || conflicts_with_all set begins bar.phase lanes) shown.bars
 
--- a barrier: all rings change phase, and no phase before it may time together with one behind it
+-- a barrier: all rings change phase, and no phase before it may time together with one after it
 abbrev pub is_barrier : Rows → ℕ → List RingLane → ℕ → Bool
 is_barrier set cycle lanes second =
     all_change second (behind cycle second) lanes
@@ -97,17 +95,16 @@ abbrev pub Follow : ℕ → List Bar → Type 0
 Follow second [] = ⊤
 Follow second (bar ∷ bars) = (bar.from ≡ second) × Follow bar.to bars
 
--- a phase stands at a second: it begins there or before, and ends later
+-- a phase covers a second: it begins there or before, and ends later
 abbrev pub covers : ℕ → Bar → Bool
 covers second bar = nat_le bar.from second && nat_lt second bar.to
 
--- the phase of a lane that stands at a second, if one does
+-- the phase of a lane that covers a second, if one does
 abbrev pub phase_at_second : List Bar → ℕ → Option ℕ
 phase_at_second bars second = option_map (λ bar. bar.phase) (find (covers second) bars)
 
--- The phases that have time, in the order of the sequence, stand one after the other from second 0
--- on, each for the seconds of its split; so each second has the phase that rule V13 compares there
--- with those of the other rings.
+-- The phases that have time follow each other from second 0 on, in the order of the sequence, each for the seconds of
+-- its split; so each second has the phase that rule V13 compares there with the phases of the other rings.
 pub record IsLane (set : Rows) (pattern : Pattern) (shown : RingLane) : Type 0 where
   pub order : map (λ bar. bar.phase) shown.bars
       ≡ with_time (times set pattern.split) (ring_row set pattern.seq shown.ring)
@@ -116,8 +113,8 @@ pub record IsLane (set : Rows) (pattern : Pattern) (shown : RingLane) : Type 0 w
   pub seconds : (second : ℕ) → phase_at_second shown.bars second
       ≡ slice_get (lane set pattern.seq pattern.split shown.ring) second
 
--- Each ring that has a phase has a lane; the lanes end with the cycle exactly where the pattern
--- meets rule V12, by which they have to.
+-- Each ring that has a phase has a lane; the lanes end with the cycle exactly if the pattern keeps rule V12, which
+-- asks for that.
 pub record IsChart (set : Rows) (pattern : Pattern) (lanes : List RingLane) : Type 0 where
   pub rings : map (λ shown. shown.ring) lanes ≡ used_rings set
   pub each : All (IsLane set pattern) lanes

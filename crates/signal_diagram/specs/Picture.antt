@@ -12,14 +12,14 @@ use Rattle.signal_diagram.specs.Lane.{RingLane}
 use Rattle.signal_diagram.specs.Chart.{IsChart}
 use Rattle.signal_diagram.specs.Shapes.{shapes_of}
 
--- the warnings that a picture tells: on a sheet those of its pattern; a page, where a figure stands,
--- has them below its rows
+-- the warnings below a picture: on a sheet those of its pattern; in a page none, since the page has them below its
+-- rows
 abbrev pub told_below : Sizing → Rows → ℕ → List Warning
 told_below Sheet set n = warnings_of_pattern set n
 told_below Figure set n = []
 
--- the set has a pattern with this number, and the picture shows its chart and, below it, exactly
--- the warnings that are told there, in their order
+-- the set has a pattern with this number, and the picture shows its chart and, below it, exactly the warnings that
+-- belong there, in their order
 pub record DrawsChart (sizing : Sizing) (set : Rows) (n : ℕ) (shown : Picture) : Type 0 where
   pub pattern : Pattern
   pub found : pattern_at set n ≡ Some pattern

@@ -27,8 +27,7 @@ calls mode.PedestrianRecall = true
 calls mode.MaximumVehicleAndPedestrianRecall = true
 calls _ = false
 
--- the split of a phase calls its walk, by its mode; nothing calls it where the phase has no split
--- row
+-- the split of a phase calls its walk, by its mode; without a split row, nothing calls it
 abbrev pub calls_walk : Option Split → Bool
 calls_walk None = false
 calls_walk (Some split) = calls split.mode
@@ -47,18 +46,18 @@ abbrev pub green_from : Bar → ℕ → Bool → Option Ped → ℕ
 green_from bar limit comes (Some ped) = if comes then tenth_after bar limit ped.lead else 10 * bar.from
 green_from bar limit comes None = 10 * bar.from
 
--- an interval of a phase in a lane, from one tenth to another; none where it would be empty
+-- an interval of a phase in a lane, from one tenth to another; none if it is empty
 abbrev pub interval : ℕ → Band → Bool → ℕ → ℕ → List Shape
 interval lane band comes from to =
     if nat_lt from to then shape.Interval lane band comes from to ∷ [] else []
 
--- the mark of a walk whose clearance is not over at a limit; none where it is
+-- the mark of a walk whose clearance is not over at a limit; none if it is over
 abbrev pub cut : ℕ → Bar → ℕ → Ped → List Shape
 cut lane bar limit ped =
     if nat_lt limit (10 * (bar.from + ped.walk + ped.clear)) then shape.Cut lane limit ∷ [] else []
 
--- the lead, the walk and the clearance after it of a phase that has them, of which none goes past a
--- limit, and the mark of a walk that is cut there
+-- the lead, the walk and the clearance after it of a phase that has them, none past a limit, and the mark of a walk
+-- that is cut there
 abbrev pub walk_intervals : ℕ → Bool → Bar → ℕ → Option Ped → List Shape
 walk_intervals lane comes bar limit None = []
 walk_intervals lane comes bar limit (Some ped) =
@@ -79,7 +78,7 @@ intervals lane comes bar (Some phase) =
     ++ interval lane Yellow true limit red_from
     ++ interval lane Red true red_from (10 * bar.to)
 
--- the intervals, the edge and the words of a phase, as its split row has it
+-- the intervals, the edge and the words of a phase, by its split row
 abbrev pub phase_shapes : Rows → Pattern → ℕ → Bar → List Shape
 phase_shapes set pattern lane bar =
     let split = split_at set pattern.split bar.phase in
@@ -101,7 +100,7 @@ lanes_shapes set pattern index [] = []
 lanes_shapes set pattern index (lane ∷ lanes) =
     lane_shapes set pattern index lane ++ lanes_shapes set pattern (index + 1) lanes
 
--- the lines over all lanes, each drawn as a barrier where it is one
+-- the lines over all lanes, each with whether it is a barrier
 abbrev pub line_shapes : Rows → ℕ → List RingLane → List Shape
 line_shapes set cycle lanes =
     map (λ second. shape.Line (length lanes) (10 * second) (is_barrier set cycle lanes second)) (line_seconds cycle lanes)

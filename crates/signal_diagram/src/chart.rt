@@ -35,7 +35,7 @@ impl Model for Lane {
 }
 
 /// The phases that have time in the ring's row of the pattern's sequence, the first from second 0
-/// on, each other one from where the one before ends.
+/// on, each other phase from the end of the one before.
 fn bars_of(
     alloc: Global,
     set: &TimingSet,
@@ -81,14 +81,14 @@ pub(crate) fn lanes_of(
     Ok(lanes)
 }
 
-/// The second at which the last phase of a lane ends; 0 where it has none.
+/// The second at which the last phase of a lane ends; 0 if it has no phase.
 fn end_of(lane: &Lane) -> u16
     ensures { result ≡ end_of 0 lane.now.bars }
 {
     lane.bars.iter().fold(0, |_, bar| bar.to)
 }
 
-/// The largest of a number of seconds and the seconds at which the lanes end.
+/// The greatest of a number of seconds and the seconds at which the lanes end.
 pub(crate) fn longest(seconds: u16, lanes: &[Lane]) -> u16
     ensures { result ≡ longest seconds lanes.now }
 {

@@ -22,7 +22,7 @@ fn open_sheet(svg: &mut Markup, width: u64, height: u64) -> fmt::Result {
 }
 
 /// Opens a picture in a page, as wide and as high as its units, and at least so wide that its
-/// letters, 20 units high, are 13 pixels. Its label says what it shows, for those who don't see it.
+/// letters, 20 units high, are 13 pixels. Its label says what it shows, for those who can't see it.
 fn open_figure(svg: &mut Markup, n: PatternNo, width: u64, height: u64) -> fmt::Result
     requires { width < 2 ^ 20 }
 {
@@ -37,7 +37,7 @@ fn open_figure(svg: &mut Markup, n: PatternNo, width: u64, height: u64) -> fmt::
     svg.own("'")
 }
 
-/// Draws a picture: its opening and white ground, what stands above its lanes, the lanes, and the
+/// Draws a picture: its opening and white ground, the words above its lanes, the lanes, and the
 /// warnings below them. It has room for so many seconds, or for its own, if these are more.
 fn draw_picture(
     svg: &mut Markup,
@@ -63,7 +63,7 @@ fn draw_picture(
     svg.own("</svg>\n")
 }
 
-/// The picture of a pattern as SVG; nothing, where the set has no such pattern.
+/// The picture of a pattern as SVG; `None` if the set has no such pattern.
 fn svg_of(
     alloc: Global,
     sizing: Sizing,
@@ -85,7 +85,7 @@ fn svg_of(
 }
 
 /// The most seconds that a picture of a pattern of a set has; 0 if the set has no pattern. With
-/// room for them all pictures of the set have one scale. `NoMemory` means that a growth was refused.
+/// room for so many, all pictures of the set have one scale.
 pub fn most_seconds(alloc: Global, set: &TimingSet) -> Result<u16, NoMemory> {
     let mut most = 0;
     for n in PatternNo::all() {
@@ -97,9 +97,8 @@ pub fn most_seconds(alloc: Global, set: &TimingSet) -> Result<u16, NoMemory> {
     Ok(most)
 }
 
-/// The picture of a pattern for a sheet, which prints on one page, landscape, with whose plan it
-/// is, if that is given: an SVG text in UTF-8, or nothing, where the set has no such pattern.
-/// `NoMemory` means that a growth was refused.
+/// The picture of a pattern for a sheet, which prints on one page, landscape, and says whose plan
+/// it is, if that is given: an SVG text in UTF-8; `None` if the set has no such pattern.
 pub fn diagram(
     alloc: Global,
     set: &TimingSet,
@@ -116,8 +115,7 @@ pub fn diagram(
 }
 
 /// The picture of a pattern for a page of HTML, which may scale it, with room for so many seconds:
-/// markup in ASCII, or nothing, where the set has no such pattern. `NoMemory` means that a growth
-/// was refused.
+/// markup in ASCII; `None` if the set has no such pattern.
 pub fn figure(
     alloc: Global,
     set: &TimingSet,

@@ -1,8 +1,9 @@
 //! The picture of a pattern: its rings and barriers, and below them its warnings.
 //!
 //! Engineers call it a ring-and-barrier or phase diagram. `chart` says which phase each ring has
-//! from which second to which, `phases` and `lines` which shapes are drawn of it, and `picture` has
-//! them as a value, of which the contracts speak. `document`, `words` and `svg` draw that value.
+//! from which second to which, `phases` and `lines` which shapes are drawn for that, and `picture`
+//! has them as a value, which the contracts describe. `document`, `words` and `svg` draw that
+//! value.
 #![tactic(auto)]
 
 mod chart;

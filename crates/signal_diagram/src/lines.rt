@@ -37,23 +37,23 @@ fn each_changes(ends: u16, begins: u16, lanes: &[Lane]) -> bool
     lanes.iter().all(|lane| changes(ends, begins, lane))
 }
 
-/// Whether each ring has a phase that ends at one second, and one that begins at another; where
-/// there is no ring nothing changes.
+/// Whether each ring has a phase that ends at one second, and a phase that begins at another;
+/// without a ring nothing changes.
 fn all_change(ends: u16, begins: u16, lanes: &[Lane]) -> bool
     ensures { result ≡ all_change ends begins lanes.now }
 {
     0 < lanes.len() && each_changes(ends, begins, lanes)
 }
 
-/// Whether a line stands at a second: at the end of the cycle, and where all rings change phase.
+/// Whether there is a line at a second: at the end of the cycle, and where all rings change phase.
 fn has_line(cycle: u16, lanes: &[Lane], second: u16) -> bool
     ensures { result ≡ has_line cycle lanes.now second }
 {
     second == cycle || all_change(second, second, lanes)
 }
 
-/// The second at which the phases behind a line begin: 0 behind the end of the cycle, where the
-/// first ones follow.
+/// The second at which the phases after a line begin: 0 after the end of the cycle, where the first
+/// ones follow.
 fn behind(cycle: u16, second: u16) -> u16
     ensures { result ≡ behind cycle second }
 {
@@ -67,7 +67,7 @@ fn list_each_other(set: &TimingSet, p: PhaseNo, q: PhaseNo) -> bool
     lists(set, p, q) && lists(set, q, p)
 }
 
-/// Whether a phase may time together with none of a lane that begins at a second.
+/// Whether a phase may time together with no phase of a lane that begins at a second.
 fn conflicts_with_lane(set: &TimingSet, begins: u16, p: PhaseNo, lane: &Lane) -> bool
     ensures { result ≡ conflicts_with_lane set.now begins p lane.now }
 {
@@ -100,7 +100,7 @@ fn all_conflict(set: &TimingSet, ends: u16, begins: u16, lanes: &[Lane]) -> bool
 }
 
 /// Whether the line at a second is a barrier: all rings change phase there, and no phase before it
-/// may time together with one behind it.
+/// may time together with one after it.
 fn is_barrier(set: &TimingSet, cycle: u16, lanes: &[Lane], second: u16) -> bool
     ensures { result ≡ is_barrier set.now cycle lanes.now second }
 {

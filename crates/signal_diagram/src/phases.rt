@@ -10,8 +10,8 @@ use signal_records::{Pattern, Ped, Phase, Split, SplitMode, TimingSet};
 use signal_rules::{is_coordinated, phase_at, split_at};
 use std::alloc::AllocError;
 
-/// Whether the split mode calls the walk of the phase: both pedestrian recalls do. Nothing calls it
-/// where the phase has no split row.
+/// Whether the split mode calls the walk of the phase: both pedestrian recalls do. Without a split
+/// row, nothing calls it.
 fn calls_walk(split: Option<Split>) -> bool
     ensures { result ≡ calls_walk split }
 {
@@ -71,8 +71,8 @@ fn add_interval(
     Ok(())
 }
 
-/// Adds the lead, the walk and the clearance of a phase that has them, up to a limit, by whether
-/// the split mode calls them, and the mark of a walk that is cut there.
+/// Adds the lead, the walk and the clearance of a phase that has them, up to a limit, each with
+/// whether the split mode calls it, and the mark of a walk that is cut there.
 fn add_walking(
     shapes: &mut Vec<Shape>,
     lane: u32,
@@ -127,7 +127,7 @@ fn add_intervals(
     add_interval(shapes, lane, Band::Red, true, red_from, 10 * u32::from(to))
 }
 
-/// Adds the intervals, the edge and the words of a phase, as its split row has it.
+/// Adds the intervals, the edge and the words of a phase, by its split row.
 fn add_phase(
     shapes: &mut Vec<Shape>,
     set: &TimingSet,

@@ -40,7 +40,7 @@ pub struct Picture {
     pub warnings: Vec<Warning>,
 }
 
-/// The first of some reasons that a picture names.
+/// The first of some reasons that a picture shows: one of V9, V12 or V13.
 fn first_noted(broken: &[Explained]) -> Option<Explained> {
     broken
         .iter()
@@ -48,7 +48,7 @@ fn first_noted(broken: &[Explained]) -> Option<Explained> {
         .copied()
 }
 
-/// The warnings that the picture of a pattern tells: none in a page, which has them below its rows.
+/// The warnings below the picture of a pattern: none in a page, which has them below its rows.
 fn told_below(
     alloc: Global,
     sizing: Sizing,
@@ -84,13 +84,14 @@ fn shapes_of(
     Ok(shapes)
 }
 
-/// The picture of the pattern with this number: each ring that is used has a lane with its phases
-/// in the order of the pattern's sequence, each as long as its split. A phase has a lead before its
-/// green, yellow and red at its end, and below it walk and clearance. A line stands over all lanes
-/// where all rings change phase, and at the end of the cycle; a scale has a tick each 10 seconds.
-/// Where the pattern breaks V9, V12 or V13, its lanes end where they end. A sheet has its warnings.
+/// The picture of the pattern with this number: each ring that has a phase has a lane with its
+/// phases in the order of the pattern's sequence, each as long as its split. A phase has a lead
+/// before its green, yellow and red at its end, and below it walk and clearance. Lines cross all
+/// lanes where all rings change phase, and at the end of the cycle; a scale has a tick each 10
+/// seconds. If the pattern breaks V9, V12 or V13, its lanes need not end with the cycle. A sheet
+/// has its warnings.
 ///
-/// Nothing, where the set has no such pattern. `NoMemory` means that a growth was refused.
+/// `None` if the set has no such pattern.
 pub fn picture_of(
     alloc: Global,
     sizing: Sizing,
@@ -98,7 +99,7 @@ pub fn picture_of(
     number: PatternNo,
 ) -> Result<Option<Picture>, NoMemory>
     ensures found { IfOk result (λ shown. IsSome shown ↔ IsSome (pattern_at set.now number)) }
-    // It shows the chart of the pattern and its warnings, on which a reader relies.
+    // It shows the chart of the pattern and its warnings.
     ensures chart { IfOk result (λ shown. IfSome shown
         (λ drawn. DrawsChart sizing set.now number drawn)) }
 {

@@ -7,13 +7,13 @@ use crate::shapes::{Band, Shape};
 use safe_markup::Markup;
 use std::fmt::{self, Write};
 
-/// Appends a constant and a number behind it.
+/// Appends a constant and a number after it.
 pub(crate) fn put(svg: &mut Markup, own: &'static str, number: u64) -> fmt::Result {
     svg.own(own)?;
     write!(svg, "{number}")
 }
 
-/// Where a tenth of a second stands across, in units.
+/// The place of a tenth of a second across, in units.
 fn x_of(tenth: u32) -> u64
     ensures { result < 2 ^ 40 }
 {
@@ -37,7 +37,7 @@ impl Band {
     }
 
     /// The colour of the interval and its edge; yellow is light and red dark, so that they differ
-    /// in black and white too. One that only a button may call is an edge in dashes.
+    /// in black and white too. An interval that only a button may call is an edge in dashes.
     pub(crate) fn style(self, comes: bool) -> &'static str {
         if !comes {
             return "fill='none' stroke='black' stroke-width='1' stroke-dasharray='6 4'";
@@ -116,8 +116,8 @@ pub(crate) fn open_words(svg: &mut Markup, x: u64, y: u64) -> fmt::Result {
     put(svg, "' y='", y)
 }
 
-/// Draws the number of a phase, a star if it is coordinated, and its seconds; not below 10 seconds,
-/// for which there is no room.
+/// Draws the number of a phase, a star if it is coordinated, and its seconds, if these are 10 or
+/// more: there is no room for fewer.
 fn draw_label(svg: &mut Markup, phase: u32, coordinated: bool, seconds: u16) -> fmt::Result {
     put(svg, "'>", u64::from(phase))?;
     if coordinated {
@@ -148,7 +148,7 @@ fn draw_tick(svg: &mut Markup, y: u64, at: u32) -> fmt::Result
     svg.own("</text>\n")
 }
 
-/// Draws a shape at the place where it stands.
+/// Draws a shape at its place.
 fn draw(svg: &mut Markup, shape: Shape) -> fmt::Result {
     match shape {
         Shape::Ring(lane, ring) => {

@@ -24,8 +24,8 @@ pub struct PlanOf<'a> {
 /// a terminal; a longer one is drawn narrower.
 const LONGEST_NAME: usize = 60;
 
-/// Writes whose plan it is, above the title, in letters so small that a name of usual length fits a
-/// picture of the least width; nothing, where that is not given.
+/// Writes whose plan it is, if that is given, above the title, in letters so small that a name of
+/// usual length fits the narrowest picture.
 pub(crate) fn draw_owner(svg: &mut Markup, of: Option<&PlanOf<'_>>) -> fmt::Result {
     let Some(of) = of else {
         return Ok(());
@@ -89,8 +89,8 @@ fn draw_legend(svg: &mut Markup) -> fmt::Result {
     svg.own("<text x='738' y='119'>not over when yellow begins</text>\n")
 }
 
-/// Writes what stands above the lanes: the title, the broken rule that the picture names, if one
-/// is, and what the marks mean.
+/// Writes the words above the lanes: the title, the broken rule that the picture names, if there is
+/// one, and what the marks mean.
 pub(crate) fn draw_head(svg: &mut Markup, picture: &Picture) -> fmt::Result {
     draw_title(svg, picture.number, &picture.pattern)?;
     if let Some(broken) = &picture.broken {
@@ -101,7 +101,7 @@ pub(crate) fn draw_head(svg: &mut Markup, picture: &Picture) -> fmt::Result {
 }
 
 /// Writes a line for each warning, the first so many units down and each other one 22 units below
-/// the one before, in letters so small that the longest, of 135, fits a picture of the least width.
+/// the one before, in letters so small that the longest, of 135, fits the narrowest picture.
 pub(crate) fn draw_warnings(svg: &mut Markup, top: u64, warnings: &[Warning]) -> fmt::Result {
     let mut y = top;
     for warning in warnings {

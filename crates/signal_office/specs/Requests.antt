@@ -16,26 +16,26 @@ use Rattle.signal_office_file.specs.Stopping.{SameOr}
 use Rattle.signal_office_line.specs.declared.job.Request.{Request}
 use Rattle.signal_office_line.specs.declared.job.Request.TheVariants as request
 
--- what was replied to a command, or the fault that is told in place of a reply, is given as the outcome
+-- the outcome is the reply to a command, or the fault in its place
 abbrev pub IsReplied : Result Reply Fault → Result Outcome Fault → Type 0
 IsReplied (Ok reply) result = result ≡ Ok (outcome.Replied reply)
 IsReplied (Err why) result = result ≡ Err why
 
--- an edit of a plan, or why it was not made, is given as the outcome
+-- the outcome is an edit of a plan, or the fault in its place
 abbrev pub IsEditedPlan : Result Edited Fault → Result Outcome Fault → Type 0
 IsEditedPlan (Ok edited) result = result ≡ Ok (outcome.Edited edited)
 IsEditedPlan (Err why) result = result ≡ Err why
 
--- what is printed, or the fault that is told in its place, is given as the outcome
+-- the outcome is what is printed, or the fault in its place
 abbrev pub IsPrinted : Result Done Fault → Result Outcome Fault → Type 0
 IsPrinted (Ok done) result = result ≡ Ok (outcome.Printed done)
 IsPrinted (Err why) result = result ≡ Err why
 
--- what looks at the tables leaves them as they were, whatever it gives, also after a stop
+-- a request that only looks at the tables leaves them as they were, whatever it gives, and so does a stop
 abbrev pub look_effect : Effect Outcome
 look_effect = record { does = λ old result new. new ≡ old; leaves = λ old found. found ≡ old }
 
--- a change gives the outcome of what it came to; a stop leaves the tables as they were, or after it
+-- a change gives what it came to as the outcome; a stop leaves the tables as they were before it, or After it
 abbrev pub change_effect : {T : Type 0} → (Gives : Result T Fault → Result Outcome Fault → Type 0) → (Makes : Content → Content → Result T Fault → Type 0) → (After : Content → Content → Type 0) → Effect Outcome
 change_effect {T} Gives Makes After = record {
   does = λ old result new. (it : Result T Fault) × Makes old new it × Gives it result;
@@ -46,7 +46,7 @@ change_effect {T} Gives Makes After = record {
 abbrev pub command_effect : Command → Effect Outcome
 command_effect asked = change_effect IsReplied (Changes asked) (AfterStep asked)
 
--- WHAT BECOMES OF THE TABLES BY EACH REQUEST, with the text of the CSV file that was read for it, and what the outcome tells of that
+-- WHAT BECOMES OF THE TABLES BY EACH REQUEST, with the text of the CSV file that was read for it, and the outcome
 abbrev pub effect_of : Request → (text : List ℕ) → Effect Outcome
 effect_of (request.Show it) text = look_effect
 effect_of (request.Fill dir folder) text = look_effect

@@ -19,28 +19,28 @@ use Rattle.signal_office_faults.specs.declared.fault.Fault.TheVariants as fault
 use Rattle.signal_office_file.specs.Task.{Effect}
 use Rattle.signal_office_file.specs.Stopping.{AfterRequest, SameOr}
 
--- the fault that tells why a listener was not served to the last connection
+-- the fault that says why a listener did not serve all connections
 abbrev pub fault_of_stop : ServeStop → Fault
 fault_of_stop stop.Accept = fault.Bind
 fault_of_stop stop.NoMemory = fault.Memory
 
--- how a turn of serving a listener ended: without a fault, or with the one that tells why it was not served to the last connection
+-- how a turn of serving a listener ended: without a fault, or with the one that says why it did not serve all connections
 abbrev pub ended_as : Result TurnEnd ServeStop → Result ⊤ Fault
 ended_as (Ok end) = Ok tt
 ended_as (Err why) = Err (fault_of_stop why)
 
--- the port was not to be had, or it could not be said that it is listened on, since memory was refused or the output failed
+-- the system refused the port, or the line on it could not be printed, since memory was refused or the output failed
 abbrev pub IsUnheard : Result ⊤ Fault → Type 0
 IsUnheard result = (result ≡ Err fault.Bind) ⊎ (result ≡ Err fault.Memory) ⊎ (result ≡ Err fault.Write)
 
--- In a turn these parts of connections were served, from what the listener told before it to what it tells after it, with so many connections left; and the result
--- tells how that ended.
+-- In a turn these parts of connections were served, from the state of the listener before it to that after it, with `count` connections left at its start; and
+-- the result says how it ended.
 abbrev pub ServesListener : Listening → ℕ → Serving → List Connected → Result ⊤ Fault → Type 0
 ServesListener listening count new served result =
     (after : Listening) × (new.listener ≡ Some after)
     × (ended : Result TurnEnd ServeStop) × EndsListening count new.left listening after served ended × (result ≡ ended_as ended)
 
--- the listener of the turn before is served on; without one, a new one is served, or there is none and nothing was served
+-- a turn goes on with the listener of the turn before; without one, with a new one, or there is none and nothing was served
 abbrev pub ServesFrom : Option Listening → ℕ → Serving → List Connected → Result ⊤ Fault → Type 0
 ServesFrom (Some listening) count new served result = ServesListener listening count new served result
 ServesFrom None count new served result =
@@ -62,8 +62,8 @@ InTurn before (it ∷ parts) after =
     × DidPart office_protocol (λ requests answers. KeepsLaws before requests answers middle) it.start.left it.start.held it.end.held it.start.ends it.end.ends outcome
     × InTurn middle parts after
 
--- A turn of serving the port went so, and the result tells how it ended. From whichever office the tables stood for, its parts of connections were served in
--- turn, and the tables stand for the office after them.
+-- A turn of serving the port, whose result says how it ended. From whichever office the tables stood for, its parts of connections were served one after the
+-- other, and the tables stand for the office after them.
 pub record ServesAs (old new : Serving) (held : Content) (result : Result ⊤ Fault) (kept : Content) : Type 0 where
   pub served : List Connected
   pub ended : ServesPort old new served result

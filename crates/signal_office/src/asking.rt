@@ -1,4 +1,4 @@
-//! What is asked of the office of a file, and what is told of it once the file is closed.
+//! Requests to the office of a file, and what is printed of them once the file is closed.
 
 ghost use Rattle.office_desk.specs.Asks.{KeepsOffice};
 ghost use Rattle.signal_office.specs.Requests.{IsEditedPlan, IsPrinted, IsReplied};
@@ -21,7 +21,7 @@ use std::alloc::Global;
 /// What an office gave for a request.
 #[derive(Drop)]
 pub(crate) enum Outcome {
-    /// What is printed: what was seen of the office, or what is told of a draft that was dropped.
+    /// What is printed: what the office shows, or the line on a draft that was dropped.
     Printed(Done),
     /// The reply to a command.
     Replied(Reply),
@@ -68,7 +68,7 @@ fn edit_outcome(edited: Result<Edited, Fault>) -> Result<Outcome, Fault>
     }
 }
 
-/// Fills a folder of the system with what the office shows, and has nothing to print.
+/// Fills a folder of the system with what the office shows, and prints nothing.
 fn fill_folder<S: Shelf>(
     rt: &HostRuntime,
     alloc: Global,
@@ -120,8 +120,8 @@ impl OfficeTask<Outcome> for Asked<'_> {
     }
 }
 
-/// What is printed of a plan that was edited, and the status; notes on it are said on standard
-/// error before. Only an edit edits a plan.
+/// What is printed of an edited plan, with the status; notes on it go to `err` before. Only the
+/// request to edit has such an outcome.
 fn tell_plan<E: Sink>(
     alloc: Global,
     request: &Request<'_>,
@@ -135,8 +135,8 @@ fn tell_plan<E: Sink>(
     }
 }
 
-/// What is printed of an outcome, and the status. Of a change that was made no want of memory is
-/// told.
+/// What is printed of an outcome, with the status. It fails only for a draft that an edit left
+/// open, for want of memory.
 fn tell<E: Sink>(
     alloc: Global,
     request: &Request<'_>,
@@ -150,15 +150,15 @@ fn tell<E: Sink>(
     }
 }
 
-/// Whether a request makes the file of an office where there is none. Only adding an intersection
-/// does: a mistyped name is no office.
+/// Whether a request makes the file of an office if there is none. Only adding an intersection
+/// does, so that no other request makes an office by a mistyped name.
 fn makes_file(request: &Request<'_>) -> bool {
     matches!(request, Request::Add { .. })
 }
 
 /// Reads the CSV file that a request names, asks the office of a file, and prints what came of it
-/// once the file is closed, so that nothing is told as done that is not on disk. A file that is not
-/// there, or is empty with no log beside it, is made only by `add`; else the fault is File.
+/// once the file is closed, so that nothing is reported as done before it is on disk. If there is
+/// no file, or an empty one with no log beside it, only `add` makes it; else the fault is File.
 pub(crate) fn ask<R: Source, W: Sink, E: Sink>(
     rt: &HostRuntime,
     alloc: Global,

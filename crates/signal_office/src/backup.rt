@@ -33,7 +33,7 @@ impl Write for CopyFile<'_> {
     }
 }
 
-/// What came of a call of the system on a file. If it was refused, that is said, and the fault is
+/// The outcome of a system call on a file. If it failed, standard error says why, and the fault is
 /// Write.
 fn or_write_fault<T>(rt: &HostRuntime, path: &str, outcome: io::Result<T>) -> Result<T, Fault> {
     match outcome {
@@ -45,8 +45,8 @@ fn or_write_fault<T>(rt: &HostRuntime, path: &str, outcome: io::Result<T>) -> Re
     }
 }
 
-/// Makes a new file with the permissions of another one, as far as the system grants them. Where
-/// something stands at the path, that is an error.
+/// Makes a new file with the permissions of another one, as far as the system grants them. It is an
+/// error if anything is at the path.
 fn make_like(rt: &HostRuntime, other: &str, path: &str) -> io::Result<File> {
     let mode = fs::metadata(rt, other)?.mode() & 0o777;
     OpenOptions::new()
@@ -56,14 +56,13 @@ fn make_like(rt: &HostRuntime, other: &str, path: &str) -> io::Result<File> {
         .open(rt, path)
 }
 
-/// Syncs a file that was written whole, and renames it to the path where it is to stand; a file
-/// there is replaced.
+/// Syncs a file that was written whole, and renames it to its final path; a file there is replaced.
 fn put_in_place(rt: &HostRuntime, file: &File, part: &str, to: &str) -> io::Result<()> {
     file.sync_all()?;
     fs::rename(rt, part, to)
 }
 
-/// Puts a copy that was made in its place. The fault is that of copying, or Write.
+/// Puts a finished copy in its place. The fault is that of copying, or Write.
 fn put_copy(
     rt: &HostRuntime,
     file: &File,
@@ -75,9 +74,9 @@ fn put_copy(
     or_write_fault(rt, to, put_in_place(rt, file, part, to))
 }
 
-/// Copies the office of a file into a new file, `.part` beside the path `to`, and puts that there.
-/// A copy that was not made, or could not be put there, is removed. The fault is Memory for the
-/// name, Write where the new file was not made, written or put, or that of copying.
+/// Copies the office of a file into a new file, `to` with `.part` at its end, and renames that to
+/// `to`. If copying or renaming fails, the new file is removed. The fault is Memory, Write where
+/// the new file can't be made, written or renamed, or that of copying.
 fn copy_to(
     rt: &HostRuntime,
     alloc: Global,
@@ -100,8 +99,8 @@ fn copy_to(
     put
 }
 
-/// Copies the office of a file into another file, where that place is free or is to be replaced,
-/// and prints `copied`. The fault is File where the office is not there, and Exists where the place
+/// Copies the office of a file into another file, if that path is free or `force` may replace what
+/// is there, and prints `copied`. The fault is File if there is no office, and Exists if the path
 /// is not free.
 pub(crate) fn backup<W: Sink>(
     rt: &HostRuntime,

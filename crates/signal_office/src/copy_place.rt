@@ -8,8 +8,8 @@ use std::fs::{self, Metadata, OpenOptions};
 use std::os::fd::AsRawFd;
 use std::os::unix::fs::MetadataExt;
 
-/// The ends of the names of files that belong to the file of an office: its log, its turns, a copy
-/// that is not finished, and what SQLite puts beside it.
+/// The ends of the names of files that belong to the file of an office: its log, the file by which
+/// runs take turns, an unfinished copy, and what SQLite puts beside it.
 const ENDINGS: [&str; 5] = ["-wal", "-turn", ".part", "-journal", "-shm"];
 
 /// The first byte of a file that SQLite locks, and how many.
@@ -21,8 +21,7 @@ fn exists_fault(rt: &HostRuntime, path: &str, why: &str) -> Fault {
     Fault::Exists
 }
 
-/// Whether there is a file at the path that has a byte. Where the system does not tell, the answer
-/// is no.
+/// Whether there is a file at the path that is not empty; false where the system does not say.
 fn has_bytes(rt: &HostRuntime, path: &str) -> bool {
     match fs::metadata(rt, path) {
         Ok(found) => found.len() > 0,
@@ -30,7 +29,7 @@ fn has_bytes(rt: &HostRuntime, path: &str) -> bool {
     }
 }
 
-/// Whether two paths lead to the same file; no where the system does not tell.
+/// Whether two paths lead to the same file; false where the system does not say.
 fn are_same(rt: &HostRuntime, one: &str, other: &str) -> bool {
     match (fs::metadata(rt, one), fs::metadata(rt, other)) {
         (Ok(one), Ok(other)) => one.dev() == other.dev() && one.ino() == other.ino(),
@@ -38,7 +37,7 @@ fn are_same(rt: &HostRuntime, one: &str, other: &str) -> bool {
     }
 }
 
-/// The file that is there to which a file of this name belongs, if there is one.
+/// The existing file to which a file of this name belongs, if there is one.
 fn owner_of<'a>(rt: &HostRuntime, path: &'a str) -> Option<&'a str> {
     for ending in ENDINGS {
         if let Some(owner) = path.strip_suffix(ending) {
@@ -50,8 +49,8 @@ fn owner_of<'a>(rt: &HostRuntime, path: &'a str) -> Option<&'a str> {
     None
 }
 
-/// Whether another run or a tool has the database file at a path open. Where the system does not
-/// tell, the answer is no.
+/// Whether another run or a tool has the database file at a path open; false if it can't be opened
+/// here.
 fn is_in_use(rt: &HostRuntime, path: &str) -> bool {
     let (first, count) = LOCKED;
     match OpenOptions::new().read(true).write(true).open(rt, path) {
@@ -62,8 +61,8 @@ fn is_in_use(rt: &HostRuntime, path: &str) -> bool {
     }
 }
 
-/// Finds out whether the name of a copy is free to be used: not that of the office itself, nor of a
-/// file that belongs to one. The fault is Exists if not, and Memory for the note.
+/// Checks the path of a copy: it must not lead to the office itself, nor be that of a file that
+/// belongs to an existing one. Else the fault is Exists, after a note, or Memory.
 fn check_name(rt: &HostRuntime, alloc: Global, office: &str, path: &str) -> Result<(), Fault> {
     if are_same(rt, office, path) {
         return Err(exists_fault(rt, path, " is the office itself"));
@@ -76,9 +75,8 @@ fn check_name(rt: &HostRuntime, alloc: Global, office: &str, path: &str) -> Resu
     Ok(())
 }
 
-/// Finds out whether a copy may stand beside what is there: not beside a log, which would bring
-/// another office back, nor beside a copy that was not finished. The fault is Exists if not, and
-/// Memory for the names.
+/// Checks what is beside the path of a copy: no log with any bytes, which would bring another
+/// office back, and no unfinished copy. Else the fault is Exists, after a note, or Memory.
 fn check_beside(rt: &HostRuntime, alloc: Global, path: &str) -> Result<(), Fault> {
     let log = format!(in alloc; "{path}-wal")?;
     let part = format!(in alloc; "{path}.part")?;
@@ -91,8 +89,8 @@ fn check_beside(rt: &HostRuntime, alloc: Global, path: &str) -> Result<(), Fault
     Ok(())
 }
 
-/// Finds out whether what stands at a path may be replaced: a plain file that no run has open, and
-/// only by `force`. The fault is Exists if not.
+/// Checks that what is at a path may be replaced: a plain file that no run has open, and only with
+/// `force`. Else the fault is Exists, after a note.
 fn check_replaced(
     rt: &HostRuntime,
     path: &str,
@@ -118,8 +116,8 @@ fn check_replaced(
     Ok(())
 }
 
-/// Finds out whether a copy of an office may be put at a path. The fault is Exists if not, after a
-/// note, and Memory where memory for the names of what may stand beside it was refused.
+/// Checks that a copy of an office may be put at a path. Else the fault is Exists, after a note, or
+/// Memory.
 pub(crate) fn find_room(
     rt: &HostRuntime,
     alloc: Global,

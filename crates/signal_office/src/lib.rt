@@ -2,9 +2,9 @@
 //! what came of it, and gives the status.
 //!
 //! A job is one function: it reads the CSV files that it names, opens the office of a file, does
-//! its work, closes the file, and only then prints. `run_words` (`program.rt`) is the table of jobs.
-//! What is asked of the office of a file is a `Request`, an arm of `done_with` (`asking.rt`) and a
-//! row of `effect_of` (`specs/Requests`).
+//! its work, closes the file, and only then prints. `run_words` (`program.rt`) is the table of
+//! jobs. Each request to the office of a file is a variant of `Request`, an arm of `done_with`
+//! (`asking.rt`) and a row of `effect_of` (`specs/Requests`).
 #![tactic(auto)]
 
 mod asking;

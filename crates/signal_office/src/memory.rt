@@ -1,4 +1,4 @@
-//! The office over new tables in memory, of which nothing has to be assumed.
+//! The office over new tables in memory. Nothing has to be assumed about them.
 
 ghost use Rattle.std.specs.Prelude.{◌≡◌, ◌≤◌, ◌+◌, ◌*◌, IfErr};
 ghost use Rattle.office_machine.specs.Office.{Office as OfficeState};
@@ -32,12 +32,12 @@ pub fn serve_new_office<R: Source, W: Sink>(
 ) -> Result<Served, ServeFault>
     // The bytes answered are those of the office machine, run over the requests of the bytes read;
     // each request wrote the rows that its command may, and one that changes nothing left the
-    // tables as they were; and the run keeps the laws of the office: each office of it is sound.
+    // tables as they were; and the run keeps the laws of the office: each of its offices is sound.
     ensures did { (after : OfficeState)
         × Did office_protocol (ServesInMemory after) max_requests
         (ends_of (R.told reader.old) (W.told writer.old))
         (ends_of (R.told reader.new) (W.told writer.new)) result }
-    // Read and Write are told only where a call of that end failed, or the writer took no byte.
+    // The fault is Read or Write only if a call of that end failed, or the writer took no byte.
     ensures fault { TellsFault (ends_of (R.told reader.old) (W.told writer.old))
         (ends_of (R.told reader.new) (W.told writer.new)) result }
     // Where the buffer was refused nothing was read or written.

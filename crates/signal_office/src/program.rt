@@ -1,4 +1,4 @@
-//! What the program's words ask for, from a source of bytes to its two outputs.
+//! Does what the program's words ask for, with one source of bytes and two outputs.
 
 use crate::asking::ask;
 use crate::backup::backup;
@@ -64,9 +64,9 @@ fn serve<W: Sink>(
     Ok(0)
 }
 
-/// Brings the tables of a file to today's version, and prints how many rows were written anew, in a
-/// line that needs no memory. A file that is not there, or is empty with no log beside it, is not
-/// made; the fault is Version.
+/// Brings the tables of a file to today's version, and prints how many rows were rewritten, in a
+/// line that needs no memory. If there is no file, or an empty one with no log beside it, the fault
+/// is Version, and none is made.
 fn migrate<W: Sink>(
     rt: &HostRuntime,
     alloc: Global,
@@ -95,7 +95,7 @@ fn show_office<R: Source, W: Sink, E: Sink>(
     ask(rt, alloc, db, &request, source, out, err)
 }
 
-/// Prints what the plans of two CSV files differ in. Of two that are both the input of the run, the
+/// Prints the differences between the plans of two CSV files. If both are the input of the run, the
 /// fault is File, after a note.
 fn compare<R: Source, W: Sink, E: Sink>(
     rt: &HostRuntime,
@@ -146,8 +146,8 @@ fn show<R: Source, W: Sink, E: Sink>(
     print_done(done, out)
 }
 
-/// Prints help or the version on standard output, with status 0, and why words are refused on
-/// standard error, with status 2.
+/// Prints help or the version to `out`, with status 0, or why the words are refused to `err`, with
+/// status 2.
 fn refuse<W: Sink, E: Sink>(
     alloc: Global,
     error: &clap::Error,
@@ -165,7 +165,7 @@ fn refuse<W: Sink, E: Sink>(
     }
 }
 
-/// The fault that tells of a word that is not what it is to be.
+/// The fault that reports a bad word of the command line.
 fn fault_of_word(bad: BadWord) -> Fault {
     match bad {
         BadWord::Day => Fault::Day,

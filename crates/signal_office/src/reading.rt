@@ -13,7 +13,7 @@ use std::alloc::Global;
 /// The path that stands for the input of the run.
 pub(crate) const INPUT: &str = "-";
 
-/// What a note calls it.
+/// What a note calls the input of the run.
 const INPUT_NAME: &str = "standard input";
 
 /// How many bytes of the input are read at a time, at most.
@@ -27,7 +27,7 @@ pub(crate) struct CsvText {
 }
 
 /// All the bytes that the input gives, up to its end. The fault is Read if the input failed, File
-/// if it has more than 64 MiB, and Memory if a growth was refused; some bytes may be taken by then.
+/// if it has more than 64 MiB, or Memory; some bytes may have been taken by then.
 fn read_input<R: Source>(
     rt: &HostRuntime,
     alloc: Global,
@@ -47,9 +47,9 @@ fn read_input<R: Source>(
     }
 }
 
-/// The bytes of a CSV file, or of the input of the run where the path is `-`. The fault is Read
-/// where the input failed, File where the system did not give them or they are too many, which a
-/// note says, or Memory.
+/// The bytes of a CSV file, or of the input of the run where the path is `-`. The fault is Read if
+/// the input failed, Memory, or, after a note, File if the system refuses the file, or it has too
+/// many bytes or records, or too long a record.
 fn read_bytes<R: Source>(
     rt: &HostRuntime,
     alloc: Global,
@@ -65,7 +65,7 @@ fn read_bytes<R: Source>(
     Ok(bytes)
 }
 
-/// Reads a CSV file, and drops the padding of its records if they may be padded.
+/// Reads a CSV file, and drops the padding of its records if `--padded` allows it.
 fn read_csv<R: Source>(
     rt: &HostRuntime,
     alloc: Global,
@@ -83,8 +83,8 @@ fn read_csv<R: Source>(
     })
 }
 
-/// Says each bad record of a CSV file on standard error, if that is asked for. `other` says that
-/// the file is the second of two.
+/// Writes a line for each bad record of a CSV file to `err`, if that is asked for. `other` says
+/// that the file is the second of two.
 fn explain<E: Sink>(
     alloc: Global,
     file: &CsvFile<'_>,
@@ -100,9 +100,9 @@ fn explain<E: Sink>(
     Ok(())
 }
 
-/// Reads the CSV file of a plan, and says the notes on it on standard error: a line for each bad
-/// record, if that is asked for, and for each record that puts or removes a key again. `other` says
-/// that the plan is the second of two.
+/// Reads the CSV file of a plan, and writes notes on it to `err`: a line for each bad record, if
+/// that is asked for, and for each record that puts or removes a key again. `other` says that the
+/// plan is the second of two.
 pub(crate) fn read_plan<R: Source, E: Sink>(
     rt: &HostRuntime,
     alloc: Global,
@@ -118,8 +118,8 @@ pub(crate) fn read_plan<R: Source, E: Sink>(
     Ok(csv)
 }
 
-/// Finds out whether a record that was only tried is of a later day than an import takes: the fault
-/// is Late then.
+/// If a request is an import that is only tried, checks that no record has a later day than
+/// `until`; else the fault is Late.
 pub(crate) fn check_tried(alloc: Global, request: &Request<'_>, csv: &[u8]) -> Result<(), Fault> {
     match request {
         Request::Import {
@@ -131,8 +131,8 @@ pub(crate) fn check_tried(alloc: Global, request: &Request<'_>, csv: &[u8]) -> R
     }
 }
 
-/// Reads the CSV file of records of cabinets, and says each bad one on standard error, if that is
-/// asked for. The fault is Late where one is of a later day than `until`.
+/// Reads the CSV file of records of cabinets, and writes a line for each bad one to `err`, if that
+/// is asked for. The fault is Late if one has a later day than `until`.
 fn read_records<R: Source, E: Sink>(
     rt: &HostRuntime,
     alloc: Global,
@@ -147,7 +147,8 @@ fn read_records<R: Source, E: Sink>(
     Ok(csv)
 }
 
-/// The CSV file that a request names, if it names one.
+/// Reads the CSV file that a request names; if it names none, text and lines are empty. For an
+/// import that is only tried, days are not checked yet.
 pub(crate) fn read_for<R: Source, E: Sink>(
     rt: &HostRuntime,
     alloc: Global,

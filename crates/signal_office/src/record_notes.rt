@@ -10,7 +10,7 @@ use std::alloc::Global;
 use std::io::Write;
 
 /// Says which records of a CSV file name a part that the office never had, and which are there
-/// already. Notes that can't be made or written are passed over.
+/// already. Notes that can't be made or written are dropped.
 pub(crate) fn note_records<S: Shelf>(
     rt: &HostRuntime,
     alloc: Global,

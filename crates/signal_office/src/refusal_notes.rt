@@ -1,5 +1,5 @@
-//! What is said on standard error of what an office refused, before the fault: which intersection,
-//! pattern or draft that was.
+//! Notes on standard error, before the fault, on what an office refused: which intersection,
+//! pattern or draft.
 
 use draft_core::refusal::DraftRefusal;
 use office_machine::refusal::Refusal;
@@ -49,7 +49,7 @@ fn note_pattern(rt: &HostRuntime, plan: &str, pattern: PatternNo) {
     }
 }
 
-/// Says that the plan of a CSV file lacks a pattern, where that is why it was not shown.
+/// Says that the plan of a CSV file lacks a pattern, if that is why nothing was shown.
 pub(crate) fn note_unshown(
     rt: &HostRuntime,
     plan: &str,
@@ -78,8 +78,7 @@ fn note_owner(rt: &HostRuntime, clerk: &str, id: InterId) {
     }
 }
 
-/// Says of a request that ended with a fault which intersection, pattern or draft was refused, if
-/// one was.
+/// Says which intersection, pattern or draft a request was refused for, if the fault is about one.
 pub(crate) fn note_refused(rt: &HostRuntime, path: &str, request: &Request<'_>, fault: &Fault) {
     match (fault, request) {
         (Fault::UnknownPattern, Request::Show(Shown::Diagram { id, pattern })) => {

@@ -1,4 +1,4 @@
-//! The office on a port of the loopback network, in turns.
+//! The office on a port of the loopback network, in turns with other runs over its file.
 
 ghost use Rattle.std.specs.Prelude.{◌≡◌, List, None, Some, Err, IfOk, IfErr};
 ghost use Rattle.office_machine.specs.Office.{Office as OfficeState};
@@ -21,8 +21,8 @@ use std::fs::File;
 use std::io;
 use std::net::{Ipv4Addr, SocketAddr, TcpListener};
 
-/// Says that a port of 127.0.0.1 is listened on. The fault is Memory where the line was not made,
-/// and Write where the output failed or took no byte.
+/// Prints that the program listens on a port of 127.0.0.1. The fault is Memory, or Write where the
+/// output failed or took no byte.
 fn say<W: Sink>(alloc: Global, port: u16, out: &mut W) -> Result<(), Fault>
     ensures unheard { IfErr result (λ why. IsUnheard (Err why)) }
     ensures unwritten { result ≡ Err Fault.Write →
@@ -42,8 +42,8 @@ fn note_port(rt: &HostRuntime, alloc: Global, port: u16, error: io::Error) {
     }
 }
 
-/// Listens on a port of 127.0.0.1, and says so. The fault is Bind if the port was not to be had,
-/// Write if the line was not written, or Memory.
+/// Listens on a port of 127.0.0.1, and prints that. The fault is Bind if the system refuses the
+/// port, Write if the line was not written, or Memory.
 fn listen<W: Sink>(
     rt: &HostRuntime,
     alloc: Global,
@@ -69,8 +69,8 @@ fn listen<W: Sink>(
     }
 }
 
-/// How a turn of serving a listener ended: without a fault, or with the one that tells why the
-/// listener was not served to the last connection.
+/// How a turn of serving a listener ended: without a fault, or with the one that says why it did
+/// not serve all connections.
 fn outcome_of(ended: Result<TurnEnd, ServeStop>) -> Result<(), Fault>
     ensures { result ≡ ended_as ended }
 {
@@ -106,7 +106,7 @@ impl Serving {
         }
     }
 
-    /// The listener; if there is none yet, the port is listened on, and that is said.
+    /// The listener; if there is none yet, listens on the port, and prints that.
     fn take_listener<W: Sink>(
         &mut self,
         rt: &HostRuntime,
@@ -120,7 +120,7 @@ impl Serving {
         ensures listening { IfOk result (λ listener.
             self.old.listener ≡ None → listener ≡ system_listening no_listening None) }
         ensures refused { IfErr result (λ _. self.old.listener ≡ None) }
-        // It is said once that the port is listened on.
+        // The line is printed only for a new listener.
         ensures said { (it : Listening) → self.old.listener ≡ Some it → out.new ≡ out.old }
         ensures unheard { IfErr result (λ why. IsUnheard (Err why)) }
         ensures unwritten { IfErr result (λ why. why ≡ Fault.Write →
@@ -133,9 +133,9 @@ impl Serving {
     }
 
     /// Serves the connections that are left in this turn, one after the other, each at most 10,000
-    /// requests, until all were served or someone else waits for the file of the office. In the
-    /// first turn the port is listened on before, and that is said. The fault is Bind for the port
-    /// or a connection that was not accepted, Write where the line was not written, or Memory.
+    /// requests, until all were served or another run waits for the file of the office. The first
+    /// turn begins by listening on the port, and prints that. The fault is Bind if the port or a
+    /// connection was refused, Write if the line was not written, or Memory.
     pub(crate) fn serve_port<S: Shelf, W: Sink>(
         &mut self,
         rt: &HostRuntime,
@@ -146,8 +146,9 @@ impl Serving {
         ensures clean { S.is_clean office.new → S.is_clean office.old }
         ensures honest { S.is_honest office.new → S.is_honest office.old }
 
-        // The office served each part of a connection as `serve_buffered` does, and no other one;
-        // and the listener tells how many connections were accepted, and the fault what failed.
+        // The office served each of these parts of connections as `serve_buffered` does, and no
+        // other; the listener counts the connections that were accepted, and the fault says what
+        // failed.
         ensures did { let storage = office_storage S.is_honest S.content S.written S.may_leave in
             (served : List Connected) × ServesPort self.old self.new served result
             × (S.is_clean office.new → (before : OfficeState) (tables : Content) →
@@ -155,7 +156,7 @@ impl Serving {
             Listens storage office.old tables before office.new served) }
         ensures unwritten { result ≡ Err Fault.Write →
             FailsOrGivesNone (W.told out.old).counts (W.told out.new).counts }
-        // It is said once that the port is listened on.
+        // The line is printed only for a new listener.
         ensures said { (it : Listening) → self.old.listener ≡ Some it → out.new ≡ out.old }
     {
         let mut listener = match self.take_listener(rt, alloc, out) {
@@ -203,7 +204,7 @@ impl TakesTurns for Serving {
     fn answer_unavailable(&mut self, alloc: Global) {
         if let Some(listener) = &mut self.listener {
             listener.go_away();
-            // Where this fails, the next turn fails as well, and tells why.
+            // If this fails, the next turn fails too, and reports why.
             let _ = answer_away(alloc, listener, &mut self.left);
         }
     }

@@ -54,16 +54,16 @@ RunsCommand asked old new result = (given : Reply) × Answered old asked given n
 abbrev pub Changes : Command → Content → Content → Result Reply Fault → Type 0
 Changes asked old new result = RunsCommand asked old new result ⊎ ((result ≡ Err told.Memory) × (new ≡ old))
 
--- a reply is told, or the fault of a refusal
+-- something is printed of a reply; a fault is given as it is
 abbrev pub TellsDrop : Result Reply Fault → Result Done Fault → Type 0
 TellsDrop (Ok reply) result = (done : Done) × (result ≡ Ok done)
 TellsDrop (Err why) result = result ≡ Err why
 
--- the draft of an intersection was dropped, and that is told
+-- the draft of an intersection was dropped, and something is printed of that; or the fault says why not
 abbrev pub Drops : ℕ → (clerk : List ℕ) → Content → Content → Result Done Fault → Type 0
 Drops id clerk old new result = (given : Result Reply Fault) × Changes (command.Abandon id clerk) old new given × TellsDrop given result
 
--- The records of a file were read, and the import of all of them was run; or why they were not read is told, and nothing was changed.
+-- The records of a file were read, and the import of all of them was run; or the fault says why they were not read, and nothing was changed.
 abbrev pub Imports : (csv : List ℕ) → Content → Content → Result Reply Fault → Type 0
 Imports csv old new result =
     ((records : List RecordCommand) × (commands_of csv ≡ Ok records) × RunsCommand (command.Import records) old new result)

@@ -1,4 +1,4 @@
--- Records that are of later days than an import takes.
+-- Records with a later day than an import takes.
 use Rattle.std.specs.Prelude.{◌≡◌, ◌⊎◌, ℕ, ◌+◌, Bool, nat_lt, false, List, Option, Some, None, Result, Ok, Err, ⊤}
 use Rattle.std.specs.List.{position}
 use Rattle.std.specs.Option.{option_map, option_map_or}
@@ -17,7 +17,7 @@ record_day (UsePart id line) = None
 record_day (CloseOrder id order closing) = Some closing.day
 record_day (Receive delivery) = Some delivery.day
 
--- the record has a day that is later than this one
+-- whether a record has a day that is later than this one
 abbrev pub is_late : (until : ℕ) → RecordCommand → Bool
 is_late until c = option_map_or (nat_lt until) (record_day c) false
 
@@ -25,7 +25,8 @@ is_late until c = option_map_or (nat_lt until) (record_day c) false
 abbrev pub first_late : (until : ℕ) → List RecordCommand → Option ℕ
 first_late until records = option_map (λ index. index + 1) (position (is_late until) records)
 
--- Where a day is given, no record of the file is of a later one; or the first that is, is reported by its number; or why the file is not read. Else nothing is read.
+-- If a day is given, no record of the file has a later one; or the fault has the number of the first that has, or says why the file is not read. Without a day,
+-- nothing is read.
 abbrev pub AreInTime : (until : Option ℕ) → (csv : List ℕ) → Result ⊤ Fault → Type 0
 AreInTime None csv result = result ≡ Ok tt
 AreInTime (Some until) csv (Ok tt) = (records : List RecordCommand) × (commands_of csv ≡ Ok records) × (first_late until records ≡ None)

@@ -1,4 +1,4 @@
--- A plan that is edited by a CSV file: what becomes of the tables, and what is told of it.
+-- A plan that is edited by a CSV file: what becomes of the tables, and what is reported.
 use Rattle.std.specs.Prelude.{◌≡◌, ◌⊎◌, ◌==◌, ℕ, Bool, true, if◌then◌else◌, List, Option, Some, None, Result, Ok, Err, ⊤}
 use Rattle.draft_core.specs.declared.timing.Reach.TheVariants as reach
 use Rattle.office_desk.specs.Asks.{IsReply, reply_to}
@@ -36,25 +36,25 @@ pub record EditAnswered (id : ℕ) (clerk : List ℕ) (asked : PlanEdit) (old : 
   pub step : AnswersAnyEdit old id clerk asked given new
   pub damaged : given ≡ reply.Refused Damaged → HasDamageIn reach.Plan old id
 
--- what is shown as the set that runs is what the office replies
+-- a set that is shown as the running one is the reply of the office
 abbrev pub ShowsRunning : Content → ℕ → Option RunningTiming → Type 0
 ShowsRunning tables id None = ⊤
 ShowsRunning tables id (Some timing) = IsReply tables (command.Timing id) (reply.Timing timing)
 
--- a draft that was read is told as open; of a refused read the fault is told
+-- a draft that was read is reported as open; a refused read gives its fault
 abbrev pub open_draft : Result OpenDraft Refusal → Result Revised Fault
 open_draft (Ok draft) = Ok (Open draft)
 open_draft (Err why) = Err (fault_of why)
 
--- what is told of a transaction that went on to this state: in state Normal, and there alone, that the plan was committed; else that the draft is open, as the office
--- shows it, or why it does not
+-- the report on a transaction that moved to this state: in Normal, and only there, that the plan was committed; else the open draft as the office shows it, or
+-- the fault of that read
 abbrev pub TellsMove : (id : ℕ) → DbState → Content → Result Revised Fault → Type 0
 TellsMove id Normal tables result =
     (running : Option RunningTiming) × (result ≡ Ok (Committed running)) × ShowsRunning tables id running
 TellsMove id state tables result =
     (read : Result OpenDraft Refusal) × IsReply tables (command.Draft id) (reply_to (λ it. reply.Draft it) read) × (result ≡ open_draft read)
 
--- WHAT IS TOLD OF AN EDIT that was answered so: what became of the plan, where the transaction went on; that nothing changed, exactly where the office says so; and of a
+-- THE REPORT ON AN EDIT, by its reply: what became of the plan, if the transaction moved; that nothing changed, exactly if the office says so; and for a
 -- refusal its fault
 abbrev pub TellsEdit : (id : ℕ) → Reply → Content → Result Revised Fault → Type 0
 TellsEdit id reply.Same tables result = result ≡ Ok Same
@@ -62,18 +62,18 @@ TellsEdit id (reply.Moved revision state verdict) tables result = TellsMove id s
 TellsEdit id (reply.Refused why) tables result = result ≡ Err (fault_of why)
 TellsEdit id other tables result = result ≡ Err fault.Store
 
--- WHAT AN EDIT MAKES OF A PLAN: it is answered, and that is told; or memory is refused, and nothing is changed
+-- WHAT AN EDIT MAKES OF A PLAN: it is answered, and that is reported; or memory is refused, and nothing is changed
 abbrev pub RevisesPlan : PlanEdit → Edit → Content → Content → Result Revised Fault → Type 0
 RevisesPlan asked edit old new result =
     ((given : Reply) × EditAnswered edit.id edit.clerk asked old given new × TellsEdit edit.id given new result)
     ⊎ ((result ≡ Err fault.Memory) × (new ≡ old))
 
--- what is told is given as it is; but where that is asked for, a fault may be explained
+-- what is reported is given as it is; but with `explain` another fault may be given that explains it
 abbrev pub IsExplained : (told : Result Revised Fault) → (explain : Bool) → (result : Result Revised Fault) → Type 0
 IsExplained (Err why) true result = (explained : Fault) × (result ≡ Err explained)
 IsExplained told explain result = result ≡ told
 
--- an edit is made, and what became of the plan is told
+-- an edit is made, and what became of the plan is reported, with the fault explained if asked for
 abbrev pub EditsNow : PlanEdit → Edit → Content → Content → Result Revised Fault → Type 0
 EditsNow asked edit old new result = (told : Result Revised Fault) × RevisesPlan asked edit old new told × IsExplained told edit.explain result
 
@@ -86,7 +86,7 @@ IsEdited (Err why) result = result ≡ Err why
 abbrev pub EditsFrom : PlanEdit → Edit → Content → Content → Result Edited Fault → Type 0
 EditsFrom asked edit old new result = (told : Result Revised Fault) × EditsNow asked edit old new told × IsEdited told result
 
--- the set that runs, where its revision is the one that is asked for, or none is
+-- the set that runs, if its revision is the one asked for or none is; else the fault has its revision
 abbrev pub check_revision : Option ℕ → RunningTiming → Result RunningTiming Fault
 check_revision None before = Ok before
 check_revision (Some revision) before = if before.revision == revision then Ok before else Err (fault.OtherRevision before.revision)
@@ -96,18 +96,18 @@ abbrev pub before_edit : Option ℕ → Result RunningTiming Refusal → Result 
 before_edit asked (Ok before) = check_revision asked before
 before_edit asked (Err why) = Err (fault_of why)
 
--- what is told of the set that runs before an edit is what the office shows, if that has the revision that the edit asks for
+-- the set that runs before an edit is what the office shows, if that has the revision that the edit asks for; else there is a fault
 abbrev pub ShowsBefore : Edit → Content → Result RunningTiming Fault → Type 0
 ShowsBefore edit tables result =
     (read : Result RunningTiming Refusal) × IsReply tables (command.Timing edit.id) (reply_to (λ it. reply.Timing it) read) × (result ≡ before_edit edit.revision read)
 
--- A PLAN IS EDITED ONLY WHERE THE COMMITTED REVISION IS THE ONE THAT IS ASKED FOR; else, or where that can't be read, the fault is told, and nothing is changed
+-- A PLAN IS EDITED ONLY IF THE COMMITTED REVISION IS THE ONE ASKED FOR, or none is; else, or if it can't be read, the fault says so, and nothing is changed
 abbrev pub EditsFound : PlanEdit → Edit → Content → Content → Result Edited Fault → Type 0
 EditsFound asked edit old new result =
     ((before : RunningTiming) × ShowsBefore edit old (Ok before) × EditsFrom asked edit old new result)
     ⊎ ((why : Fault) × (result ≡ Err why) × ShowsBefore edit old (Err why) × (new ≡ old))
 
--- AN EDIT of a plan by a file is the one that the file asks for; or why the file is not read is told, and nothing is changed
+-- AN EDIT of a plan by a file is the one that the file asks for; or the fault says why the file is not read, and nothing is changed
 abbrev pub Edits : (csv : List ℕ) → Edit → Content → Content → Result Edited Fault → Type 0
 Edits csv edit old new result =
     ((asked : PlanEdit) × AsksFor csv edit asked × EditsFound asked edit old new result)

@@ -9,7 +9,7 @@ use Rattle.office_machine.specs.declared.refusal.Refusal.TheVariants as refusal
 use Rattle.signal_office_faults.specs.declared.fault.Fault.{Fault}
 use Rattle.signal_office_faults.specs.declared.fault.Fault.TheVariants as told
 
--- the refusals that a record of the register may get, beside Unavailable and Damaged
+-- the refusals that a record of the register may get, besides Unavailable and Damaged
 abbrev pub of_records : List Refusal
 of_records =
     refusal.UnknownIntersection ∷ map (λ why. refusal.Cabinet why) (
@@ -39,7 +39,7 @@ fault_of refusal.Unavailable = told.Store
 fault_of (refusal.ImportRow at cause) = fault_of_record at cause (record_refusal cause)
 fault_of other = told.Refused other
 
--- the fault tells why a CSV file was not read: its first record that spells nothing, as the reading gave it, or want of memory
+-- the fault tells why a CSV file was not read: its first bad record, as the reader gives it, or want of memory
 abbrev pub IsUnread : {A : Type 0} → Result A CsvFault → Fault → Type 0
 IsUnread read fault =
     (why : CsvFault) × (fault ≡ told.Csv why) × ((why ≡ file.NoMemory) ⊎ (read ≡ Err why))

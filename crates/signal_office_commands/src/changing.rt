@@ -1,5 +1,5 @@
-//! Commands that change an office: an intersection is added, records are imported, a draft is
-//! dropped. Each gives what the office replied, or what is told of that, or the fault of a refusal.
+//! Commands that change an office: add an intersection, import records, drop a draft. Each gives
+//! the reply of the office, or what is printed of it, or the fault of a refusal.
 #![tactic(auto, using(office_desk::proofs::Looks::keeps, office_desk::proofs::Looks::keeps_then))]
 
 ghost use Rattle.std.specs.Prelude.{◌≡◌};
@@ -21,7 +21,7 @@ use signal_plans::compare;
 use signal_records::{InterId, Interval, NoMemory, TimingSet, Words};
 use std::alloc::Global;
 
-/// Takes a reply as it is, but of a refusal the fault.
+/// The reply as it is, but for a refusal its fault.
 fn accept_reply(reply: Reply) -> Result<Reply, Fault>
     ensures { result ≡ accept_reply reply }
 {
@@ -40,8 +40,8 @@ fn change<S: Shelf>(alloc: Global, office: &mut Office<S>, command: Command) -> 
     accept_reply(reply)
 }
 
-/// Adds an intersection. One that is there stays: if its name and interval are these the reply is
-/// the same, else the command is refused. Out of memory is told only where nothing was changed.
+/// Adds an intersection. An existing one stays: the reply is `Same` if its name and interval are
+/// these, else the command is refused. The fault is Memory only if nothing was changed.
 pub fn add<S: Shelf>(
     alloc: Global,
     office: &mut Office<S>,
@@ -75,7 +75,7 @@ fn dropped_text(
     Ok(text.into_bytes())
 }
 
-/// What is told of the draft of an intersection once it is dropped; the fault where it can't be
+/// What is printed of the draft of an intersection once it is dropped; the fault if it can't be
 /// read.
 fn tell_dropped<S: Shelf>(alloc: Global, office: &mut Office<S>, id: InterId) -> Result<Done, Fault>
     ensures { KeepsOffice S.Shelf office.old office.new }
@@ -86,7 +86,7 @@ fn tell_dropped<S: Shelf>(alloc: Global, office: &mut Office<S>, id: InterId) ->
     Ok(Done::with(text))
 }
 
-/// What is told of a dropped draft; a fixed line where that could not be read.
+/// What is printed of a dropped draft; a fixed line if the draft could not be read.
 fn or_plain(told: Result<Done, Fault>) -> Done {
     match told {
         Ok(told) => told,
@@ -109,9 +109,9 @@ fn drop_draft<S: Shelf>(
     change(alloc, office, Command::Abandon { id, clerk })
 }
 
-/// Drops the draft of an intersection, whoever holds it, and tells whose it was and how many rows
-/// it changed, as far as that could be read before; the clerk is who asks. Out of memory is told
-/// only where nothing was changed.
+/// Drops the draft of an intersection, whoever holds it; `clerk` is who asks. What is printed says
+/// whose it was and how many rows it changed, if that could be read before. The fault is Memory
+/// only if nothing was changed.
 pub fn abandon<S: Shelf>(
     alloc: Global,
     office: &mut Office<S>,
@@ -130,8 +130,8 @@ pub fn abandon<S: Shelf>(
 }
 
 /// Takes the records of a CSV file into the register in turn, each after those before it: all of
-/// them, or none. A record that was there counts as the same. The first record that spells nothing,
-/// or that the office refuses, is reported.
+/// them, or none. A record that is there already counts as the same. The fault names the first bad
+/// record, or the first that the office refuses.
 pub fn import<S: Shelf>(alloc: Global, office: &mut Office<S>, csv: &[u8]) -> Result<Reply, Fault>
     ensures { ChangesShelf S.Shelf office.old office.new
         (λ old new. Imports csv.now old new result) (AfterImporting csv.now) }

@@ -1,4 +1,4 @@
-//! What is reported of records that were tried: those that would be refused, and how many.
+//! The report on records that were tried: those that would be refused, and the counts.
 
 use cabinet_core::{Closing, Day, Order, push_date};
 use office_desk::{Checked, There};
@@ -85,7 +85,7 @@ fn push_refused(
 }
 
 /// Appends a line for each record that would be refused, with its number, counted from 1, and the
-/// line of the file on which it begins, of `lines`.
+/// line on which it begins, from `lines`.
 fn push_all(text: &mut String, lines: &[usize], all: &[Checked]) -> Result<(), AllocError> {
     for (index, checked) in all.iter().enumerate() {
         if let Checked::Refused { refusal, there } = checked {
@@ -97,7 +97,7 @@ fn push_all(text: &mut String, lines: &[usize], all: &[Checked]) -> Result<(), A
 }
 
 /// A line for each record that would be refused, with its number, the line of the file on which it
-/// begins, the name of the refusal, and what is there; then a line with these counts.
+/// begins, the name of the refusal, and what the register holds; then a line with the counts.
 pub(crate) fn checks_text(
     alloc: Global,
     lines: &[usize],

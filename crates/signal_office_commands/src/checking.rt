@@ -1,4 +1,4 @@
-//! Records of a CSV file that are tried and not taken.
+//! Records of a CSV file that are only tried, not taken.
 #![tactic(auto, using(office_desk::proofs::Looks::keeps_none, crate::proofs::LookLemmas::keeps_shelf))]
 
 ghost use Rattle.office_desk.specs.Asks.{KeepsOffice};
@@ -15,7 +15,7 @@ use std::alloc::Global;
 /// The status where a record would be refused.
 const HAS_REFUSED: u8 = 1;
 
-/// Tells each record that would be refused, and the counts. The status is 1 if any would be
+/// Reports each record that would be refused, and the counts. The status is 1 if any would be
 /// refused, else 0.
 fn tell_checked(alloc: Global, lines: &[usize], all: &[Checked]) -> Result<Done, Fault> {
     let refused = all
@@ -28,9 +28,8 @@ fn tell_checked(alloc: Global, lines: &[usize], all: &[Checked]) -> Result<Done,
 }
 
 /// Tries the records of a CSV file in turn, each after those before it that would be taken, and
-/// tells each that would be refused, with the line of the file on which it begins, of `lines`, and
-/// status 1. Nothing is taken. A fault is the first record that spells nothing, a row that a record
-/// reads and that is no record, or a refusal of memory or the database.
+/// reports each that would be refused, with the line on which it begins, from `lines`. The status
+/// is 1 if there is one, else 0. Nothing is taken.
 pub fn check<S: Shelf>(
     alloc: Global,
     office: &mut Office<S>,

@@ -1,4 +1,5 @@
-//! What two plans differ in: of two CSV files, of a draft, or of a file and what runs.
+//! The differences between two plans: of two CSV files, or of a draft or a file and the committed
+//! plan.
 #![tactic(auto, using(office_desk::proofs::Looks::keeps, office_desk::proofs::Looks::keeps_then))]
 
 ghost use Rattle.office_desk.specs.Asks.{KeepsOffice};
@@ -16,7 +17,7 @@ use std::alloc::Global;
 /// The status with which the program ends where plans differ.
 const DIFFERS: u8 = 4;
 
-/// Differences as a text, or as CSV the changes that make the second plan of the first.
+/// Differences as a text, or as CSV: the changes that turn the first plan into the second.
 fn differences_text(
     alloc: Global,
     differences: &[Difference],
@@ -30,7 +31,8 @@ fn differences_text(
     }
 }
 
-/// What two plans differ in, in the order of the keys. The status is 4 where they differ, else 0.
+/// The differences between two plans, in the order of the keys. The status is 4 if there are any,
+/// else 0.
 fn comparison(alloc: Global, before: &TimingSet, after: &TimingSet, csv: bool) -> Report {
     let differences = compare(alloc, before, after)?;
     let status = if differences.is_empty() { 0 } else { DIFFERS };
@@ -38,8 +40,8 @@ fn comparison(alloc: Global, before: &TimingSet, after: &TimingSet, csv: bool) -
     Ok(Done::ending(text, status))
 }
 
-/// What the plans in two CSV files differ in. A bad record of the second file is reported only
-/// where the first spells a plan.
+/// The differences between the plans in two CSV files. A bad record of the second file is reported
+/// only if the first file has none.
 pub fn compare_files(alloc: Global, first: &[u8], second: &[u8], csv: bool) -> Result<Done, Fault> {
     let before = read_plan_csv(alloc, first)?;
     match read_plan_csv(alloc, second) {
@@ -63,8 +65,8 @@ pub(crate) fn compare_draft<S: Shelf>(
     comparison(alloc, &timing.rows, &draft.rows, csv)
 }
 
-/// What the plan in a CSV file differs in from the committed timing set. The first bad record of
-/// the file is reported only where the intersection is there.
+/// The differences between the committed timing set and the plan in a CSV file. The first bad
+/// record of the file is reported only if the committed set could be read.
 pub(crate) fn compare_running<S: Shelf>(
     alloc: Global,
     office: &mut Office<S>,

@@ -5,7 +5,7 @@ use signal_records::NoMemory;
 use std::alloc::{AllocError, Global};
 use std::fmt::Write;
 
-/// How many differences are told, at most.
+/// How many differences are printed one by one, at most.
 const MOST_TOLD: usize = 10;
 
 /// How many rows were added, changed and removed.
@@ -16,7 +16,7 @@ pub(crate) struct RowCounts {
     pub(crate) removed: usize,
 }
 
-/// How many rows differ, by how they do.
+/// How many rows were added, changed and removed, by these differences.
 pub(crate) fn count_rows(differences: &[Difference]) -> RowCounts {
     let added = differences
         .iter()
@@ -34,8 +34,8 @@ pub(crate) fn count_rows(differences: &[Difference]) -> RowCounts {
     }
 }
 
-/// Appends how many rows were added, changed and removed, without those of which there are none, as
-/// `4 rows changed, 1 removed`; `no row changed` where there are none at all.
+/// Appends how many rows were added, changed and removed, without counts of zero, as
+/// `4 rows changed, 1 removed`; `no row changed` if all are zero.
 pub(crate) fn push_counts(text: &mut String, differences: &[Difference]) -> Result<(), AllocError> {
     let RowCounts {
         added,

@@ -51,8 +51,8 @@ fn first_late(until: Day, records: &[RecordCommand]) -> Option<usize>
 }
 
 /// Checks that no record of a CSV file has a day later than `until`; without that day nothing is
-/// read. `Late` gives the number of the first record that has one, `Csv` the first that spells
-/// nothing, or that memory was refused.
+/// read. `Late` gives the number of the first record that has one, `Csv` the first bad record, or
+/// that memory was refused.
 pub fn check_days(alloc: Global, csv: &[u8], until: Option<Day>) -> Result<(), Fault>
     ensures { AreInTime until csv.now result }
 {

@@ -27,7 +27,7 @@ fn plan_after(revised: &Revised) -> Option<&TimingSet> {
     }
 }
 
-/// Appends a note where more than half of the committed rows are changed or removed.
+/// Appends a note if more than half of the committed rows are changed or removed.
 fn push_share(
     alloc: Global,
     text: &mut String,
@@ -59,7 +59,7 @@ fn unnamed_keys(alloc: Global, changes: &[Change], plan: &TimingSet) -> Result<V
     Ok(unnamed)
 }
 
-/// Whether two rows are of one split or one sequence, or both phases or both patterns.
+/// Whether two keys are of one split or one sequence, or both of phases or both of patterns.
 fn share_group(one: &Key, other: &Key) -> bool {
     match (one, other) {
         (Key::Phase(_), Key::Phase(_)) | (Key::Pattern(_), Key::Pattern(_)) => true,
@@ -69,8 +69,8 @@ fn share_group(one: &Key, other: &Key) -> bool {
     }
 }
 
-/// Appends how many rows there are, and of what if they are of one split or sequence, or all phases
-/// or patterns, as `8 rows of split 3`. The first is one of them.
+/// Appends how many rows there are, as `8 rows of split 3` if all are of one split or sequence, or
+/// all phases or patterns. `first` is one of `keys`.
 fn push_rows(text: &mut String, first: &Key, keys: &[Key]) -> Result<(), AllocError> {
     let count = keys.len();
     let s = if count == 1 { "" } else { "s" };
@@ -85,8 +85,8 @@ fn push_rows(text: &mut String, first: &Key, keys: &[Key]) -> Result<(), AllocEr
     }
 }
 
-/// Appends a note where rows stay which a file does not name. A file that removes a row is no whole
-/// plan, and needs no note.
+/// Appends a note if rows stay that a file does not name. A file that removes a row is not meant as
+/// a whole plan, and needs no note.
 fn push_stays(
     alloc: Global,
     text: &mut String,
@@ -108,7 +108,7 @@ fn push_stays(
     })
 }
 
-/// Whether this is the committed plan of an intersection. Where that can't be read, it is not.
+/// Whether this is the committed plan of an intersection; false if that can't be read.
 fn is_plan_of<S: Shelf>(
     alloc: Global,
     office: &mut Office<S>,
@@ -123,8 +123,8 @@ fn is_plan_of<S: Shelf>(
     }
 }
 
-/// Whether this plan, which has so many rows, is the committed one of an intersection, and that is
-/// not the one of this number. A plan with another number of rows is not read.
+/// Whether this plan of `count` rows is the committed one of `other`, and `other` is not the
+/// intersection `id`. A committed plan with another number of rows is not read.
 fn is_plan_of_other<S: Shelf>(
     alloc: Global,
     office: &mut Office<S>,
@@ -141,8 +141,8 @@ fn is_plan_of_other<S: Shelf>(
     is_plan_of(alloc, office, other.id, plan)
 }
 
-/// The first other intersection of which this is the committed plan. Of the others only plans with
-/// as many rows are read.
+/// The first intersection other than `id` whose committed plan this is. Only plans with as many
+/// rows are read.
 fn whose_plan<S: Shelf>(
     alloc: Global,
     office: &mut Office<S>,
@@ -161,7 +161,7 @@ fn whose_plan<S: Shelf>(
     Ok(None)
 }
 
-/// Appends a note where the plan that changes make of none is the committed one of another
+/// Appends a note if the plan that changes make from nothing is the committed one of another
 /// intersection, as far as that can be read.
 fn push_other<S: Shelf>(
     alloc: Global,
@@ -182,8 +182,8 @@ fn push_other<S: Shelf>(
     }
 }
 
-/// Appends the notes on an edit by a file, which is empty where there is none, of the committed set
-/// before it and of the plan after it.
+/// Appends the notes on an edit by the file `csv`, empty if there is none, by the committed set
+/// before it and the plan after it.
 fn push_notes<S: Shelf>(
     alloc: Global,
     office: &mut Office<S>,
@@ -204,9 +204,9 @@ fn push_notes<S: Shelf>(
     Ok(())
 }
 
-/// The notes on an edit that was made, of the committed set before it: where the file is the
-/// committed plan of another intersection, where more than half of the committed rows change, and
-/// where rows stay that the file does not name. Without memory for them there are none.
+/// The notes on an edit that was made; `before` is the committed set before it. They say if the
+/// file is the committed plan of another intersection, if more than half of the committed rows
+/// change, and if rows stay that the file does not name. Without memory for them there are none.
 pub(crate) fn edit_notes<S: Shelf>(
     alloc: Global,
     office: &mut Office<S>,

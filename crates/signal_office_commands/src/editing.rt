@@ -30,7 +30,7 @@ pub enum Revised {
     Same,
     /// The draft stays open: no commit was asked for, or it breaks a rule.
     Open(OpenDraft),
-    /// The plan was committed, and this set runs now; none where that read was refused.
+    /// The plan was committed, and this set runs now; `None` if that could not be read.
     Committed(Option<RunningTiming>),
 }
 
@@ -58,7 +58,8 @@ fn plan_edit(alloc: Global, edit: &Edit<'_>, csv: &[u8]) -> Result<PlanEdit, Fau
     })
 }
 
-/// The set that runs before an edit, if its revision is the one that is asked for, or none is.
+/// The set that runs before an edit, if its revision is the one asked for or none is; else the
+/// fault is OtherRevision.
 fn check_revision(asked: Option<u32>, before: RunningTiming) -> Result<RunningTiming, Fault>
     ensures { result ≡ check_revision asked before }
 {
@@ -69,8 +70,8 @@ fn check_revision(asked: Option<u32>, before: RunningTiming) -> Result<RunningTi
     }
 }
 
-/// The set that runs before an edit which asks for this revision, or for any; or the fault of
-/// another revision, or of the read.
+/// The set that runs before an edit, if its revision is the one asked for or none is; else the
+/// fault of another revision, or of the read.
 fn before_edit(
     asked: Option<u32>,
     read: Result<RunningTiming, Refusal>,
@@ -83,8 +84,8 @@ fn before_edit(
     }
 }
 
-/// Reads the set that runs before an edit. The fault is OtherRevision where the edit asks for
-/// another revision, or that of the read.
+/// Reads the set that runs before an edit. The fault is OtherRevision if the edit asks for another
+/// revision, or that of the read.
 fn read_before<S: Shelf>(
     alloc: Global,
     office: &mut Office<S>,
@@ -96,7 +97,7 @@ fn read_before<S: Shelf>(
     before_edit(edit.revision, office.timing(alloc, edit.id))
 }
 
-/// The set that runs after a commit; none where the read is refused.
+/// The set that runs after a commit; `None` if the read is refused.
 fn read_running<S: Shelf>(
     alloc: Global,
     office: &mut Office<S>,
@@ -121,8 +122,8 @@ fn open_draft(read: Result<OpenDraft, Refusal>) -> Result<Revised, Fault>
     }
 }
 
-/// What became of a plan whose transaction went on to this state; or the fault of the read of a
-/// draft that was left open.
+/// What became of a plan whose transaction moved to this state; or the fault of reading a draft
+/// that was left open.
 fn read_moved<S: Shelf>(
     alloc: Global,
     office: &mut Office<S>,
@@ -140,7 +141,7 @@ fn read_moved<S: Shelf>(
     }
 }
 
-/// What became of a plan, by the reply to its edit; or the fault of a refusal, or of the read of a
+/// What became of a plan, by the reply to its edit; or the fault of a refusal, or of reading a
 /// draft that was left open.
 fn revised_by<S: Shelf>(
     alloc: Global,
@@ -159,7 +160,7 @@ fn revised_by<S: Shelf>(
     }
 }
 
-/// Revises a plan as an edit asks, and tells what became of it, or the fault.
+/// Revises a plan as an edit asks, and gives what became of it, or the fault.
 fn revise_plan<S: Shelf>(
     alloc: Global,
     office: &mut Office<S>,
@@ -175,7 +176,7 @@ fn revise_plan<S: Shelf>(
     revised_by(alloc, office, edit, &reply)
 }
 
-/// Revises a plan as an edit asks, and tells what became of it; or the fault, explained if the edit
+/// Revises a plan as an edit asks, and gives what became of it; or the fault, explained if the edit
 /// asks for that.
 fn edit_now<S: Shelf>(
     alloc: Global,
@@ -193,7 +194,7 @@ fn edit_now<S: Shelf>(
     }
 }
 
-/// Edits a plan of which this set runs, and makes notes on what became of it.
+/// Edits a plan whose committed set is `before`, and makes notes on what became of it.
 fn edit_from<S: Shelf>(
     alloc: Global,
     office: &mut Office<S>,
@@ -219,7 +220,7 @@ fn edit_from<S: Shelf>(
     }
 }
 
-/// Edits a plan whose committed revision is the one that the edit asks for.
+/// Edits a plan if its committed revision is the one that the edit asks for, or it asks for none.
 fn edit_found<S: Shelf>(
     alloc: Global,
     office: &mut Office<S>,
@@ -238,10 +239,9 @@ fn edit_found<S: Shelf>(
 }
 
 /// Edits an intersection's plan by a CSV file, in one step of the office: the draft of the clerk is
-/// begun or opened again, and changed, and committed where that is asked for and it breaks no rule.
-/// A fault tells why the edit is refused, and then nothing was changed: also where another revision
-/// is committed than the edit asks for; but where the draft that was left open can't be read, it is
-/// the fault of that.
+/// begun or opened again, and changed, and committed if that is asked for and it breaks no rule. On
+/// a fault nothing was changed, with one exception: the edit left the draft open, and reading it
+/// back failed.
 pub fn edit<S: Shelf>(
     alloc: Global,
     office: &mut Office<S>,

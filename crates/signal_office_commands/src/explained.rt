@@ -1,4 +1,4 @@
-//! The fault of a refused edit as `--explain` tells it: of a draft that another clerk owns that
+//! The fault of a refused edit with `--explain`: if another clerk owns the draft, it names that
 //! clerk.
 #![tactic(auto, using(office_desk::proofs::Looks::keeps, office_desk::proofs::Looks::keeps_none))]
 
@@ -23,7 +23,8 @@ fn name_of(clerk: &Words<40>) -> ArrayString<40> {
     name
 }
 
-/// Tells the clerk who owns a draft; without one, that the clerk of the edit does not own it.
+/// The fault that names the owner of a draft; without an owner, that the clerk of the edit does not
+/// own it.
 fn held_by(owner: &Option<Words<40>>) -> Fault {
     match owner {
         Some(owner) => Fault::HeldBy(name_of(owner)),
@@ -31,8 +32,8 @@ fn held_by(owner: &Option<Words<40>>) -> Fault {
     }
 }
 
-/// Tells the clerk who owns the draft of an intersection, by a look at the office; or why that is
-/// refused.
+/// The fault that names the owner of the draft of an intersection, read in the office; or the fault
+/// of that read.
 fn owner_told<S: Shelf>(alloc: Global, office: &mut Office<S>, id: InterId) -> Fault
     ensures { KeepsOffice S.Shelf office.old office.new }
 {
@@ -42,8 +43,8 @@ fn owner_told<S: Shelf>(alloc: Global, office: &mut Office<S>, id: InterId) -> F
     }
 }
 
-/// Why an edit is refused, and if the edit asks for that, who owns the draft; any other fault as it
-/// is.
+/// Why an edit is refused. If the edit asks for explanation, NotOwner becomes the fault that names
+/// the owner; any other fault is given as it is.
 pub(crate) fn refused_edit<S: Shelf>(
     alloc: Global,
     office: &mut Office<S>,

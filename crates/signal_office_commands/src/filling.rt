@@ -1,8 +1,8 @@
 //! Folders that are filled with what an office shows.
 //!
-//! All rows are read twice: first only to learn that each is a record, so that nothing is put where
-//! one is not; then, intersection by intersection, for the texts. So memory does not grow with
-//! texts.
+//! All rows are read twice: first only to check that each is a record, so that no file is put if
+//! one is not; then, intersection by intersection, for the texts. So only one text is in memory at
+//! a time.
 #![tactic(auto, using(office_desk::proofs::Looks::keeps, office_desk::proofs::Looks::keeps_then, office_desk::proofs::Looks::keeps_none))]
 
 ghost use Rattle.office_desk.specs.Asks.{KeepsOffice};
@@ -64,7 +64,7 @@ fn read_all<S: Shelf>(
     Ok(())
 }
 
-/// Puts a file that has what a report prints.
+/// Puts a file with what a report prints.
 fn put_report<S: Shelf, D: Folder>(
     alloc: Global,
     office: &mut Office<S>,
@@ -204,8 +204,8 @@ fn put_files<S: Shelf, D: Folder>(
     }
 }
 
-/// A row that was a record as all were read, and is none as its file is made, is a fault of the
-/// database.
+/// The fault of making a file. A row that was a record when all were read, and is none now, is a
+/// fault of the database.
 fn late(fault: Fault) -> Fault {
     match fault {
         Fault::Damaged => Fault::Store,
@@ -213,9 +213,9 @@ fn late(fault: Fault) -> Fault {
     }
 }
 
-/// Fills a folder of a kind with the files of an office, which stays as it is. Where a row that they
-/// show is no record, no file is put, and the fault is Damaged. Where a file is later not put, those
-/// before it are: the fault is Write, Memory or Store.
+/// Fills a folder of a kind with the files of an office, which stays as it is. If a row that they
+/// show is no record, no file is put, and the fault is Damaged. If a file can't be put later, those
+/// before it stay: the fault is Write, Memory or Store.
 pub fn fill<S: Shelf, D: Folder>(
     alloc: Global,
     office: &mut Office<S>,

@@ -1,5 +1,5 @@
-//! Notes on records that are to be imported: those of a part that the office never had, and those
-//! that are there already.
+//! Notes on records that are to be imported: which name a part that the office never had, and which
+//! are there already.
 #![tactic(auto, using(office_desk::proofs::Looks::keeps, office_desk::proofs::Looks::keeps_then))]
 
 ghost use Rattle.office_desk.specs.Asks.{KeepsOffice};
@@ -16,7 +16,7 @@ use std::alloc::{AllocError, Global};
 use std::collections::BTreeSet;
 use std::fmt::Write;
 
-/// How many records are noted, at most; of more their number is told.
+/// How many records are noted one by one, at most; the others are only counted.
 const MOST_NOTES: usize = 100;
 
 /// The part that a record names, if it names one.
@@ -42,7 +42,7 @@ fn codes_of(alloc: Global, parts: &[(PartCode, Hand)]) -> Result<BTreeSet<PartCo
     Ok(had)
 }
 
-/// The part that a record is the first to name, if the office never had it.
+/// The part that a record names, if it is not among `had`; it is then added there.
 fn new_part<'a>(
     had: &mut BTreeSet<PartCode>,
     record: &'a RecordCommand,
@@ -54,7 +54,7 @@ fn new_part<'a>(
     Ok(if is_new { Some(part) } else { None })
 }
 
-/// Appends the note on how many more records there are.
+/// Appends the note on how many more records would be noted.
 fn push_rest(text: &mut String, more: usize) -> Result<(), AllocError> {
     writeln!(
         text,
@@ -62,7 +62,8 @@ fn push_rest(text: &mut String, more: usize) -> Result<(), AllocError> {
     )
 }
 
-/// Appends the note on a record, of this number, that is of a new part or is there already.
+/// Appends the note on the record with this number: it names a new part or, without `part`, is
+/// there already.
 fn push_note(text: &mut String, at: usize, part: Option<&PartCode>) -> Result<(), AllocError> {
     match part {
         Some(part) => writeln!(text, "note: record {at}: new part {}", part.as_str()),
@@ -70,8 +71,8 @@ fn push_note(text: &mut String, at: usize, part: Option<&PartCode>) -> Result<()
     }
 }
 
-/// The notes on records, numbered from 1, by the parts that the office had, and by what would come
-/// of each record.
+/// The notes on records, numbered from 1. `had` are the parts that the office had, and `checked` is
+/// what an import would make of each record.
 fn notes_on(
     alloc: Global,
     records: &[RecordCommand],
@@ -95,11 +96,9 @@ fn notes_on(
     Ok(text)
 }
 
-/// A line for each record of a CSV file that is the first to name a part which the office never had
-/// (`note: record 4: new part LED-RED12`), or that is there already, were it imported after those
-/// before it: for the first hundred, and one with the number of the others. A fault is a record
-/// that spells nothing, a row that is read and is no record, or a refusal of memory or the
-/// database.
+/// A line for each of the first hundred records of a CSV file that are the first to name a part
+/// which the office never had (`note: record 4: new part LED-RED12`), or that are already there
+/// when those before them are imported; and a line with the number of the others.
 pub fn record_notes<S: Shelf>(
     alloc: Global,
     office: &mut Office<S>,

@@ -32,7 +32,7 @@ impl Gathered {
         }
     }
 
-    /// Adds an intersection with its cabinet, and with how many warnings its committed plan has.
+    /// Adds an intersection with its cabinet and the number of warnings of its committed plan.
     pub(crate) fn add(
         &mut self,
         listed: &ListedIntersection,
@@ -52,8 +52,8 @@ impl Gathered {
     }
 }
 
-/// The index page over what was gathered; if a day is given, those that are overdue for an
-/// inspection on it stand first and are marked.
+/// The index page over what was gathered; if a day is given, intersections that are overdue for
+/// inspection on it come first and are marked.
 pub(crate) fn index_over<S: Shelf>(
     alloc: Global,
     office: &mut Office<S>,

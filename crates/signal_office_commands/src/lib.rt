@@ -2,8 +2,8 @@
 //!
 //! A report reads an office, which stays as it is, and gives what is printed. A command that
 //! changes an office gives what the office replied, or what became of a plan; `told` and
-//! `tell_edited` tell that once the file is closed. Other commands show or compare plans in CSV
-//! files.
+//! `tell_edited` make what is printed of that, once the file is closed. Other commands show or
+//! compare plans in CSV files.
 #![tactic(auto)]
 
 mod changing;

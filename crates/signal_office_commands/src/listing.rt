@@ -1,4 +1,4 @@
-//! Lists of an office: intersections, stock, orders, used parts, what was done, late inspections.
+//! Lists of an office: intersections, stock, orders, used parts, work done, overdue inspections.
 #![tactic(auto, using(office_desk::proofs::Looks::keeps, office_desk::proofs::Looks::keeps_then, office_desk::proofs::Looks::keeps_none, crate::proofs::LookLemmas::keeps_shelf))]
 
 ghost use Rattle.office_desk.specs.Asks.{KeepsOffice};
@@ -22,7 +22,7 @@ use signal_records::{InterId, NoMemory, Words};
 use std::alloc::Global;
 use std::collections::BTreeMap;
 
-/// How a list is printed that is asked for so.
+/// The style of a list, by the form in which it is asked for.
 fn style_of(form: ListForm) -> ListStyle {
     match form {
         ListForm::Lines => ListStyle::Lines,
@@ -31,7 +31,7 @@ fn style_of(form: ListForm) -> ListStyle {
     }
 }
 
-/// The days from one on to another.
+/// The days from one to another, both included.
 fn days_of(between: &Between) -> Days {
     Days {
         first: between.from,
@@ -79,7 +79,7 @@ pub(crate) fn stock<S: Shelf>(alloc: Global, office: &mut Office<S>, form: ListF
     report_of(stock_list(alloc, style_of(form), parts.as_slice()))
 }
 
-/// The orders that a map has for an intersection, none where it has no entry.
+/// The orders that a map has for an intersection; none if it has no entry.
 fn orders_in(orders: &BTreeMap<InterId, Vec<Order>>, id: InterId) -> &[Order] {
     match orders.get(&id) {
         Some(found) => found.as_slice(),
@@ -184,7 +184,7 @@ fn orders_named<S: Shelf>(
     report_of(named_list(alloc, orders, by_age, form))
 }
 
-/// The open orders of an intersection, or of all; by their age, where a day is given.
+/// The open orders of an intersection, or of all; by their age if a day is given.
 pub(crate) fn orders<S: Shelf>(
     alloc: Global,
     office: &mut Office<S>,
@@ -215,8 +215,8 @@ fn add_used_on<S: Shelf>(
     Ok(add_used(found, part, days, &cabinet)?)
 }
 
-/// What was used of all parts, or of one, for the orders of all intersections, closed ones too; on
-/// some days, where these are given.
+/// What was used of all parts, or of one, for the orders of all intersections, closed ones too; if
+/// days are given, only on these.
 pub(crate) fn used_parts<S: Shelf>(
     alloc: Global,
     office: &mut Office<S>,
@@ -233,7 +233,7 @@ pub(crate) fn used_parts<S: Shelf>(
     Ok(found)
 }
 
-/// The code of a part, in memory of its own, where one is named.
+/// The code of a part, in memory of its own, if one is named.
 fn code_of(alloc: Global, part: &Option<Part<'_>>) -> Result<Option<PartCode>, NoMemory> {
     match part {
         Some(part) => Ok(Some(part.to_code(alloc)?)),

@@ -44,7 +44,7 @@ pub(crate) fn read_page<S: Shelf>(
 }
 
 impl PageRead {
-    /// The page with the warnings of the committed plan, linked to the index of all or not.
+    /// The page with the warnings of the committed plan; if `linked`, with a link to the index.
     pub(crate) fn text(
         &self,
         alloc: Global,
@@ -61,14 +61,14 @@ impl PageRead {
         intersection_page(alloc, linked, &shown)
     }
 
-    /// The page, linked to the index of all or not.
+    /// The page; if `linked`, with a link to the index.
     fn page(&self, alloc: Global, linked: bool) -> Result<Vec<u8>, NoMemory> {
         let warnings = warnings(alloc, &self.committed)?;
         self.text(alloc, &warnings, linked)
     }
 }
 
-/// The page of an intersection, linked to the index of all or not.
+/// The page of an intersection; if `linked`, with a link to the index.
 pub(crate) fn page<S: Shelf>(
     alloc: Global,
     office: &mut Office<S>,

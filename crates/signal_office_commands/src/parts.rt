@@ -54,7 +54,7 @@ fn one_piece(part: &PartCode, number: RecordNo) -> Result<Option<Delivery>, NoMe
     }))
 }
 
-/// What was tried, as the records of a try.
+/// The records to try: the delivery, if there is one.
 fn records_of(alloc: Global, delivery: Option<Delivery>) -> Result<Vec<RecordCommand>, NoMemory> {
     let mut records = Vec::new(alloc);
     if let Some(delivery) = delivery {
@@ -63,8 +63,8 @@ fn records_of(alloc: Global, delivery: Option<Delivery>) -> Result<Vec<RecordCom
     Ok(records)
 }
 
-/// The delivery that is there, by what would come of one of one piece on the first day under its
-/// number: that one, or the one with which it is refused.
+/// The delivery that is there, by what came of trying `one_piece` under its number: that one, if it
+/// is the same, or the one that refuses it.
 fn there_by(
     checked: Option<Checked>,
     part: &PartCode,
@@ -82,7 +82,7 @@ fn there_by(
     }
 }
 
-/// The delivery of a part with this number, if there is one: the office tells it where another one
+/// The delivery of a part with this number, if there is one. The office shows it when another one
 /// is tried under the number.
 fn read_delivery<S: Shelf>(
     alloc: Global,
@@ -97,7 +97,7 @@ fn read_delivery<S: Shelf>(
     Ok(there_by(checked.pop(), part, number)?)
 }
 
-/// Adds a delivery that was read, if one was, and gives how many of so many pieces are left.
+/// Adds a delivery that was found, if one was, and gives `left` without its pieces.
 fn take_delivery(
     deliveries: &mut Vec<Delivery>,
     found: Option<Delivery>,
@@ -111,8 +111,8 @@ fn take_delivery(
     Ok(rest)
 }
 
-/// Adds the delivery of a part with this number, if there is one, and gives how many of so many
-/// pieces are left.
+/// Adds the delivery of a part with this number, if there is one, and gives `left` without its
+/// pieces.
 fn add_delivery<S: Shelf>(
     alloc: Global,
     office: &mut Office<S>,
@@ -130,8 +130,8 @@ fn add_delivery<S: Shelf>(
     Ok(take_delivery(deliveries, found, left)?)
 }
 
-/// The deliveries of a part by number, below this number, which together had so many pieces: no
-/// number past the last of them is looked for.
+/// The deliveries of a part with numbers below `end`, in their order. Together they had `pieces`
+/// pieces, so no number after the last of them is looked for.
 fn read_deliveries<S: Shelf>(
     alloc: Global,
     office: &mut Office<S>,
@@ -175,7 +175,7 @@ fn uses_of<S: Shelf>(
     used_parts(alloc, office, &asked, &None)
 }
 
-/// What a part is shown as.
+/// The text that shows a part.
 fn text_of<'a>(
     alloc: Global,
     part: &'a PartCode,

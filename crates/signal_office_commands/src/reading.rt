@@ -1,4 +1,4 @@
-//! CSV files that are read for a command: the fault of one that is not is that of its reader.
+//! Reads the CSV file of a command. The fault is `Csv`, with the first bad record or `NoMemory`.
 
 ghost use Rattle.std.specs.Prelude.{◌≡◌, IfOk, IfErr, Ok};
 ghost use Rattle.office_files.specs.Changes.{changes_of};

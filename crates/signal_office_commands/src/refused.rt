@@ -7,7 +7,7 @@ use cabinet_core::CabinetRefusal;
 use office_machine::refusal::Refusal;
 use signal_office_faults::Fault;
 
-/// The refusals that a record of the register may get, beside Unavailable and Damaged.
+/// The refusals that a record of the register may get, besides Unavailable and Damaged.
 const OF_RECORDS: [Refusal; 11] = [
     Refusal::UnknownIntersection,
     Refusal::Cabinet(CabinetRefusal::InspectionDiffers),
@@ -46,7 +46,7 @@ fn record_refusal(number: u32) -> Option<Refusal>
 }
 
 /// The fault that reports a refusal of the office: `Store` for Unavailable, where memory or the
-/// database refused. The fault of a refused import tells its first refused record.
+/// database refused. The fault of a refused import names its first refused record.
 pub fn fault_of(refusal: Refusal) -> Fault
     ensures { result ≡ fault_of refusal }
 {

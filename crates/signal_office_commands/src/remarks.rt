@@ -1,4 +1,4 @@
-//! What is told of a plan: the rules that it breaks, and what an engineer is warned of in it.
+//! What is printed of a plan: the rules that it breaks, and its warnings.
 
 use office_files::violation_text;
 use office_views::reasons_text;
@@ -19,8 +19,7 @@ pub(crate) fn checked_status(violations: &[Violation]) -> u8 {
     }
 }
 
-/// The text of the rules that a plan breaks; with their reasons, found in the plan, where those are
-/// asked for.
+/// The text of the rules that a plan breaks; with their reasons if `explain`.
 fn broken_text(
     alloc: Global,
     plan: &TimingSet,
@@ -39,8 +38,8 @@ pub(crate) fn advice_text(alloc: Global, plan: &TimingSet) -> Result<Vec<u8>, No
     warnings_text(alloc, &warnings(alloc, plan)?)
 }
 
-/// The text of the rules that a plan breaks, with their reasons where those are asked for, and
-/// behind it a line for each warning, where warnings are asked for.
+/// The text of the rules that a plan breaks, with their reasons if `explain`, and then, if
+/// `advise`, a line for each warning.
 pub(crate) fn remarks_text(
     alloc: Global,
     plan: &TimingSet,

@@ -1,4 +1,4 @@
-//! Reports of an office: what is read of it, and the text that is made of that. A new report is a
+//! Reports on an office: what is read of it, and the text that is made of that. A new report is a
 //! `Shown` with a function of its own.
 #![tactic(auto, using(office_desk::proofs::Looks::keeps, office_desk::proofs::Looks::keeps_then))]
 
@@ -24,7 +24,7 @@ use std::alloc::Global;
 /// What a report comes to.
 pub(crate) type Report = Result<Done, Fault>;
 
-/// What is printed of a text, with status 0; or that memory for it was refused.
+/// The report that prints a text, with status 0.
 pub(crate) fn report_of(text: Result<Vec<u8>, NoMemory>) -> Report {
     Ok(Done::with(text?))
 }
@@ -102,8 +102,8 @@ fn picture<S: Shelf>(
 
 /// What is printed of an office, which stays as it is; `plan` is the text of the CSV file that
 /// `CompareRunning` names. The fault is UnknownIntersection, UnknownPattern, Refused where nobody
-/// holds a draft, Csv where `plan` is not read, Memory or Store where memory or the database
-/// refused, and Damaged where a row that is read is no record.
+/// holds a draft, Csv where `plan` can't be read, Damaged where a row that is read is no record,
+/// Memory or Store.
 pub fn report<S: Shelf>(
     alloc: Global,
     office: &mut Office<S>,

@@ -10,8 +10,8 @@ use signal_records::{PatternNo, TimingSet};
 use signal_rules::violations;
 use std::alloc::Global;
 
-/// The rules that a plan breaks, with reasons where those are asked for, and its warnings where
-/// those are; the status is 3 if it breaks a rule, else 0.
+/// The rules that a plan breaks, with reasons if `explain`, and its warnings if `advise`; the
+/// status is 3 if it breaks a rule, else 0.
 fn show_remarks(
     alloc: Global,
     plan: &TimingSet,
@@ -23,7 +23,7 @@ fn show_remarks(
     Ok(Done::ending(text, checked_status(&broken)))
 }
 
-/// The picture of a pattern of a plan; `UnknownPattern` says that the plan does not have it.
+/// The picture of a pattern of a plan; `UnknownPattern` if the plan does not have it.
 fn draw(alloc: Global, plan: &TimingSet, pattern: PatternNo) -> Result<Done, Fault> {
     match diagram(alloc, plan, pattern, None)? {
         Some(text) => Ok(Done::with(text)),

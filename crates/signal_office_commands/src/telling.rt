@@ -1,4 +1,4 @@
-//! What is printed of a change, once it was made.
+//! What is printed of a change once it is made.
 
 use crate::counting::{first_text, push_counts};
 use crate::editing::{Edited, Revised};
@@ -20,10 +20,11 @@ const NOT_COMMITTED: &str =
 /// refused.
 const COMMITTED: &str = "no violations\ncommitted\n";
 
-/// What is told of it where warnings were asked for.
+/// As `COMMITTED`, if warnings were asked for.
 const UNREAD_WARNINGS: &str = "no violations\ncommitted\nits warnings could not be read\n";
 
-/// The line that tells how many records of an import were new, and were there: `added 5, same 2`.
+/// The line on how many records of an import were new, and how many were there already:
+/// `added 5, same 2`.
 fn imported_line(added: usize, same: usize) -> ArrayString<LINE_ROOM> {
     let mut line = ArrayString::new();
     let _ = writeln!(line, "added {added}, same {same}"); // there is room
@@ -31,7 +32,7 @@ fn imported_line(added: usize, same: usize) -> ArrayString<LINE_ROOM> {
 }
 
 /// What is printed of the reply to `add` or `import`. It needs no memory, so that what was done is
-/// never told as a fault. They get no other reply than these.
+/// never reported as a fault. They get no replies but these three.
 pub fn told(reply: &Reply) -> Done {
     match *reply {
         Reply::Added => Done::telling("added\n"),
@@ -41,9 +42,9 @@ pub fn told(reply: &Reply) -> Done {
     }
 }
 
-/// Tells of a draft that stays open: the rules that it breaks, its warnings where those are asked
-/// for, and whose it is; or, if it was to be committed, that it was not, with status 3 if it breaks
-/// a rule.
+/// What is printed of a draft that stays open: the rules that it breaks, its warnings if asked for,
+/// and whose it is; or, if a commit was asked for, that it was not committed, with status 3 if it
+/// breaks a rule.
 fn tell_open(alloc: Global, edit: &Edit<'_>, draft: &OpenDraft) -> Result<Done, Fault> {
     let violations = draft.violations.as_slice();
     let mut text = remarks_text(alloc, &draft.rows, violations, edit.explain, edit.advise)?;
@@ -78,8 +79,8 @@ fn committed_line(
     Ok(line)
 }
 
-/// What is told of a draft that was committed: its warnings, where those are asked for; its line;
-/// and where reasons are asked for, what it changed of the set before.
+/// What is printed of a draft that was committed: its warnings if asked for, the line of the
+/// commit, and, if `explain`, its first differences from the set before.
 fn committed_text(
     alloc: Global,
     edit: &Edit<'_>,
@@ -100,8 +101,8 @@ fn committed_text(
     Ok(text)
 }
 
-/// Tells of a commit, of the set before and of the one that runs now, if that could be read. Where
-/// it could not, or memory is refused, it is told in a fixed line.
+/// What is printed of a commit, by the set before and the one that runs now. If that could not be
+/// read, or memory is refused, it is a fixed text.
 fn tell_committed(
     alloc: Global,
     edit: &Edit<'_>,
@@ -120,7 +121,8 @@ fn tell_committed(
     })
 }
 
-/// Tells what became of a plan. Only of a draft that stays open may it fail, for want of memory.
+/// What is printed of an edited plan. It fails only for a draft that stays open, for want of
+/// memory.
 pub fn tell_edited(alloc: Global, edit: &Edit<'_>, edited: &Edited) -> Result<Done, Fault> {
     match &edited.revised {
         Revised::Same => Ok(Done::telling("no changes\n")),

@@ -16,12 +16,12 @@ row_kind name =
     else if bytes_eq name (codes "pattern") then row.Pattern
     else row.Other
 
--- the kind of a row or a key, by its fields, of which the first is its name
+-- the kind of a row or a key, by its fields, which begin with its name
 abbrev pub kind_of_row : List (List ℕ) → RowKind
 kind_of_row [] = row.Other
 kind_of_row (name ∷ rest) = row_kind name
 
--- the kind of a record: `remove` stands before the key that it removes
+-- the kind of a record: it removes a key if its first field is `remove`
 abbrev pub record_kind_of : List (List ℕ) → RecordKind
 record_kind_of [] = record { kind = row.Other; removes = false }
 record_kind_of (name ∷ rest) =
@@ -37,8 +37,7 @@ is_blank (b ∷ bs) = false
 abbrev pub are_blank : List (List ℕ) → Bool
 are_blank fields = list_all is_blank fields
 
--- how many fields the record of a phase has: 9, or 15 with a pedestrian part, which is there where any field after the ninth is not
--- empty
+-- how many fields the record of a phase has: 15 if any field after the ninth, of its pedestrian part, is not empty; else 9
 abbrev pub phase_width : List (List ℕ) → ℕ
 phase_width fields = if are_blank (drop 9 fields) then 9 else 15
 
@@ -52,7 +51,7 @@ register_width kind =
     else if bytes_eq kind (codes "delivery") then Some 5
     else None
 
--- how many fields a record of the register has, by its fields, of which the first is its kind; none for other records
+-- how many fields a record of the register has, by its first field, its kind; none for other records
 abbrev pub record_width : List (List ℕ) → Option ℕ
 record_width [] = None
 record_width (kind ∷ rest) = register_width kind
@@ -74,21 +73,20 @@ width_by false row.Other fields = record_width fields
 abbrev pub width_of : List (List ℕ) → Option ℕ
 width_of fields = width_by (record_kind_of fields).removes (record_kind_of fields).kind fields
 
--- a record with the fields that its kind has, where all that come after them are empty; else, or where the kind is unknown, with
--- all of its fields
+-- a record without the fields after its width, if all of these are empty; else, or without a width, all of its fields
 abbrev pub kept_by : Option ℕ → List (List ℕ) → List (List ℕ)
 kept_by None fields = fields
 kept_by (Some width) fields = if are_blank (drop width fields) then take width fields else fields
 
--- the fields of a padded record, without those at its end that its kind does not have, if all of these are empty
+-- a record without its padding: the fields that its kind has, if all after them are empty; else all of its fields
 abbrev pub unpadded : List (List ℕ) → List (List ℕ)
 unpadded fields = kept_by (width_of fields) fields
 
--- the records but those of empty fields alone, each without its padding
+-- the records without those whose fields are all empty, each without its padding
 abbrev pub unpadded_rows : List (List (List ℕ)) → List (List (List ℕ))
 unpadded_rows rows = map unpadded (filter (λ fields. not (are_blank fields)) rows)
 
--- the file of records behind a byte order mark, so that a reader takes off that mark and nothing of the first field
+-- the file of records after a byte order mark: a reader drops that mark, and none of the first field
 abbrev pub marked_text : List (List (List ℕ)) → List ℕ
 marked_text rows = 0xEF ∷ 0xBB ∷ 0xBF ∷ csv_text rows
 

@@ -9,10 +9,10 @@ use signal_records::{NoMemory, RowFault};
 use std::alloc::Global;
 use std::fmt::Write;
 
-/// How many bad records of a file are told, at most.
+/// How many bad records of a file are printed one by one, at most.
 const MOST_TOLD: usize = 100;
 
-/// What a file is that is no CSV file in UTF-8, if the first field that is read of it tells that.
+/// What else a file is than CSV in UTF-8, if its first field shows it.
 fn what_file(records: &[ByteRecord]) -> Option<&'static str> {
     match records.first()?.get(0)? {
         [b'P', b'K', 3, 4, ..] => Some("a workbook (xlsx), not CSV; save as CSV UTF-8"),
@@ -32,7 +32,7 @@ fn first_fault<T: Drop>(read: Result<Vec<T>, CsvFault>) -> Result<Option<RowFaul
     }
 }
 
-/// The fault of the first bad record of a file, if it has one, as who reads such a file finds it.
+/// The fault of the first bad record of a file of this kind, if it has one.
 fn fault_in(alloc: Global, of: CsvKind, csv: &[u8]) -> Result<Option<RowFault>, NoMemory> {
     match of {
         CsvKind::Plan => first_fault(read_timing_csv(alloc, csv)),
@@ -40,7 +40,7 @@ fn fault_in(alloc: Global, of: CsvKind, csv: &[u8]) -> Result<Option<RowFault>, 
     }
 }
 
-/// What is wrong with a record, if it spells nothing. It is read as a file of its own.
+/// What is wrong with a record, if it is bad. It is read as a file of its own.
 fn wrong_with(alloc: Global, of: CsvKind, record: &ByteRecord) -> Result<Option<Wrong>, NoMemory> {
     let file = marked_file(alloc, std::slice::from_ref(record))?;
     let Some(fault) = fault_in(alloc, of, &file)? else {
@@ -51,8 +51,8 @@ fn wrong_with(alloc: Global, of: CsvKind, record: &ByteRecord) -> Result<Option<
     Ok(Some(Wrong { fault, is_padded }))
 }
 
-/// Appends a line for each bad record, up to the most that are told, and gives how many there are.
-/// `line` is what stands before the number of each line.
+/// Appends a line for each of the first hundred bad records, and gives how many there are in all.
+/// `line` is the word before each line number.
 fn push_all(
     alloc: Global,
     text: &mut String,
@@ -76,11 +76,10 @@ fn push_all(
     Ok(count)
 }
 
-/// A line for each bad record of a CSV file, with the line of the file on which it begins, of
-/// `lines`, what stands there and what may stand there, as `line 7, offset: "300"; 0 to 255
-/// seconds`: for at most a hundred, and then how many more there are; nothing of a good file. Of a
-/// workbook or a file in UTF-16 it is one line that says so. `other` says that the file is the
-/// second of two. `NoMemory` means that a growth was refused.
+/// A line for each of the first hundred bad records of a CSV file, as
+/// `line 7, offset: "300"; 0 to 255 seconds`, and a line with the number of the others; empty for a
+/// good file. `lines` has the line on which each record begins. For a workbook or a file in UTF-16
+/// it is one line that says so. `other` says that the file is the second of two.
 pub fn bad_records_text(
     alloc: Global,
     csv: &[u8],

@@ -4,12 +4,12 @@ use crate::fault::Fault;
 use arrayvec::ArrayString;
 use office_http_framing::ends::{Sink, write_all};
 
-/// The room of a line with numbers, in bytes: more than the longest such line has.
+/// The room for a line with numbers, in bytes: more than the longest such line needs.
 pub const LINE_ROOM: usize = 96;
 
 /// What a job came to: what is printed on standard output, and the status with which the program
-/// ends. A change is told in a line that needs no memory, so that one that was made is never told
-/// as a fault for want of memory.
+/// ends. `Fixed` and `Line` need no memory: a change that is reported by them never ends as a fault
+/// for want of memory.
 #[derive(Drop)]
 pub enum Done {
     /// A text, and the status, 0 to 255.
@@ -60,7 +60,7 @@ impl Done {
 }
 
 /// Prints a text as a whole, and gives the status. The fault is `Write` where the output failed or
-/// took no byte; it may have taken the text up to some place.
+/// took no byte; it may have taken a part of the text.
 pub fn print_text<W: Sink>(text: &[u8], status: u8, out: &mut W) -> Result<u8, Fault> {
     match write_all(out, text) {
         Ok(()) => Ok(status),
@@ -68,8 +68,8 @@ pub fn print_text<W: Sink>(text: &[u8], status: u8, out: &mut W) -> Result<u8, F
     }
 }
 
-/// Prints what a job came to, and gives its status. Of a job that ended with a fault nothing is
-/// printed, and that fault is given; it is `Write` where the output failed or took no byte.
+/// Prints what a job came to, and gives its status. If the job ended with a fault, nothing is
+/// printed, and that fault is given. It is `Write` if the output failed or took no byte.
 pub fn print_done<W: Sink>(done: Result<Done, Fault>, out: &mut W) -> Result<u8, Fault> {
     match done {
         Ok(done) => print_text(done.as_bytes(), done.status(), out),

@@ -1,4 +1,4 @@
-//! The faults with which the program ends, and how they are told.
+//! The faults with which the program ends, and the lines that report them.
 
 use arrayvec::ArrayString;
 use office_files::{BadRow, CsvFault};
@@ -15,9 +15,9 @@ pub enum Fault {
     Read,
     /// An output or a file could not be written, or an output took no byte.
     Write,
-    /// A growth was refused.
+    /// Memory was refused.
     Memory,
-    /// The database refused.
+    /// The database, or the system for a file of an office, refused.
     Store,
     /// The tables have another version than the program's, or a file to be migrated has none.
     Version,
@@ -25,15 +25,17 @@ pub enum Fault {
     Damaged,
     /// The port can't be listened on, or no connection could be accepted.
     Bind,
-    /// A CSV file can't be read, or the file of an office is not there and is not to be made.
+    /// A CSV file can't be read or is too long, or the file of an office is missing and this
+    /// command does not make it.
     File,
-    /// Something stands where a copy of an office is to be put, or its log or part stands beside.
+    /// The path of a copy is not free: it belongs to an office, something exists there that may not
+    /// be replaced, or a log or an unfinished copy is beside it.
     Exists,
     /// The office has no such intersection.
     UnknownIntersection,
     /// The plan has no such pattern.
     UnknownPattern,
-    /// The committed revision is this one, and another was asked for.
+    /// The committed revision is this one, not the one that `--revision` requires.
     OtherRevision(u32),
     /// A word of the command line spells no day from 1970-01-01 to 2199-12-31.
     Day,
@@ -49,14 +51,14 @@ pub enum Fault {
     Refused(Refusal),
     /// The office refused a record of the CSV file, counted from 1.
     Record { at: usize, refusal: Refusal },
-    /// A record of the CSV file, counted from 1, has a later day than an import takes.
+    /// A record of the CSV file, counted from 1, has a later day than `--until` allows.
     Late { at: usize },
-    /// A record of the CSV file, or of the first of two that are compared, spells nothing; or a
-    /// growth was refused as the file was read.
+    /// A record of the CSV file, or of the first of two that are compared, is bad; or memory was
+    /// refused while the file was read.
     Csv(CsvFault),
-    /// The office refused what only the owner of a draft may do, and this clerk owns it.
+    /// The office refused what only the owner of the draft may do; its owner is this clerk.
     HeldBy(ArrayString<40>),
-    /// A record of the second of two CSV files spells nothing.
+    /// A record of the second of two CSV files is bad.
     OtherCsv(BadRow),
     /// The words of the command line are not UTF-8.
     Words,
@@ -73,7 +75,7 @@ impl Fault {
     }
 }
 
-/// Writes the line that tells the fault, or its two lines, without the end of the last.
+/// Writes the line that reports the fault, or its two lines, without the last line feed.
 impl fmt::Display for Fault {
     fn fmt<W: fmt::Write>(&self, f: &mut fmt::Formatter<W>) -> fmt::Result {
         match self {
@@ -142,11 +144,11 @@ impl From<ServeFault> for Fault {
     }
 }
 
-/// The room of the lines that tell a fault, in bytes: more than the longest have.
+/// The room for the lines that report a fault, in bytes: more than the longest need.
 const ROOM: usize = 512;
 
-/// Says the line of a fault on standard error, as far as that takes it, and gives the status with
-/// which the program ends, which is not 0. It needs no memory.
+/// Writes the lines of a fault to `err`, as far as it takes them, and gives the status with which
+/// the program ends, 1 or 2. It needs no memory.
 pub fn report<W: Sink>(err: &mut W, fault: Fault) -> u8 {
     let mut line: ArrayString<ROOM> = ArrayString::new();
     let _ = writeln!(line, "{fault}");

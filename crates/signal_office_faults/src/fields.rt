@@ -1,11 +1,11 @@
-//! The fields of the records of a CSV file: their names, and what they may be.
+//! The fields of the records of a CSV file: their names, and what they may have.
 
 use crate::kinds::{RecordKind, RowKind};
 
-/// What a field with a list of phases may be.
+/// What a field with a list of phases may have.
 const PHASE_LIST: &str = "phases 1 to 32, each once, one space between two";
 
-/// A field of a record: its name, and what it may be, numbers with their unit.
+/// A field of a record: its name, and what it may have, numbers with their unit.
 #[derive(Clone, Copy)]
 pub(crate) struct Field(pub(crate) &'static str, pub(crate) &'static str);
 
@@ -68,7 +68,7 @@ const COUNT: Field = Field("count", "1 to 999999999");
 
 const TEXT: Field = Field("text", "1 to 500 bytes without control characters");
 
-/// The fields of a record of a plan behind its kind, in their order; of a removal those of the key.
+/// The fields of a record of a plan after its kind, in order; for a removal, the fields of the key.
 fn plan_fields(of: RecordKind) -> &'static [Field] {
     match (of.removes, of.kind) {
         (false, RowKind::Phase) => PHASE_FIELDS,
@@ -83,7 +83,7 @@ fn plan_fields(of: RecordKind) -> &'static [Field] {
     }
 }
 
-/// The fields of a record of the register behind its kind, in their order.
+/// The fields of a record of the register after its kind, in order; none for an unknown kind.
 fn register_fields(kind: &[u8]) -> &'static [Field] {
     if kind == b"inspection".as_slice() || kind == b"order".as_slice() {
         &[INTERSECTION, NUMBER, DAY, CLERK, TEXT]
@@ -98,7 +98,7 @@ fn register_fields(kind: &[u8]) -> &'static [Field] {
     }
 }
 
-/// The fields of a record behind its kind, of a plan or of the register; none of an unknown kind.
+/// The fields of a record of a plan or of the register after its kind; none for an unknown kind.
 pub(crate) fn fields_behind(of: RecordKind, kind: &[u8]) -> &'static [Field] {
     match of.kind {
         RowKind::Other if !of.removes => register_fields(kind),

@@ -1,19 +1,19 @@
-//! Folders, into which files are put by their names.
+//! Folders into which files are put by name.
 
 use crate::fault::Fault;
 use crate::standard_error::note_system;
 use std::alloc::Global;
 use std::{fs, io};
 
-/// A folder, into which files are put.
+/// A folder into which files are put.
 pub trait Folder {
-    /// Puts a file of this name, with this text. One that has the text stays as it is; any other
-    /// is as it was until it has the whole text. The fault is `Write` where the file was not
-    /// written, and `Memory` where a growth was refused; the file was not put then.
+    /// Puts a file with this name and text. A file that has the text already is not touched; any
+    /// other is as it was until it has the whole text. The fault is `Write` or `Memory`; the file
+    /// is then as it was.
     fn put(&mut self, name: &str, text: &[u8]) -> Result<(), Fault>;
 }
 
-/// A folder of the system, which is made as the first file is put.
+/// A folder of the file system; if it does not exist, putting the first file makes it.
 #[derive(Drop)]
 pub struct SystemFolder<'a> {
     rt: &'a HostRuntime,
@@ -22,7 +22,7 @@ pub struct SystemFolder<'a> {
     is_there: bool,
 }
 
-/// Whether a path leads to a file with this text and no more; no where the system does not tell.
+/// Whether a path leads to a file with exactly this text; false where the system does not say.
 fn holds(rt: &HostRuntime, path: &str, text: &[u8]) -> bool {
     let is_as_long = match fs::metadata(rt, path) {
         Ok(found) => found.is_file() && found.len() == text.len() as u64,
@@ -31,13 +31,13 @@ fn holds(rt: &HostRuntime, path: &str, text: &[u8]) -> bool {
     is_as_long && matches!(fs::read(rt, path), Ok(held) if held.as_slice() == text)
 }
 
-/// Says why the system refuses to make a folder or to write a file, and gives the fault.
+/// Says why the system refuses to make a folder or to write a file, and gives the fault `Write`.
 fn write_fault(rt: &HostRuntime, path: &str, error: io::Error) -> Fault {
     note_system(rt, path, error);
     Fault::Write
 }
 
-/// Makes a folder where there is none. The fault is `Write` where that fails, after a note.
+/// Makes a folder if there is none. Where that fails, the fault is `Write`, after a note.
 fn make(rt: &HostRuntime, path: &str) -> Result<(), Fault> {
     match fs::create_dir(rt, path) {
         Ok(()) => Ok(()),
@@ -65,7 +65,7 @@ fn write_beside(rt: &HostRuntime, part: &str, path: &str, text: &[u8]) -> Result
 }
 
 impl<'a> SystemFolder<'a> {
-    /// The folder of this path, which need not be there yet.
+    /// The folder at this path, which need not exist yet.
     pub fn new(rt: &'a HostRuntime, alloc: Global, path: &'a str) -> SystemFolder<'a> {
         SystemFolder {
             rt,

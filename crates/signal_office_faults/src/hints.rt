@@ -1,4 +1,5 @@
-//! What is wrong with a record of a CSV file, for who mends it: what stands there, and what may.
+//! What is wrong with a record of a CSV file, for whoever mends it: what a field has, and what it
+//! may have.
 
 use crate::fields::{Field, fields_behind, widths_of};
 use crate::kinds::{RecordKind, RowKind, record_kind_of};
@@ -14,7 +15,7 @@ pub enum CsvKind {
     Register,
 }
 
-/// What is wrong with a record that spells nothing.
+/// What is wrong with a bad record.
 #[derive(Clone, Copy)]
 pub(crate) struct Wrong {
     pub(crate) fault: RowFault,
@@ -22,7 +23,7 @@ pub(crate) struct Wrong {
     pub(crate) is_padded: bool,
 }
 
-/// A record that spells nothing, as it is told.
+/// A bad record, the file that it is in, and what is wrong with it.
 #[derive(Clone, Copy)]
 struct BadRecord<'r> {
     in_file: CsvKind,
@@ -32,14 +33,14 @@ struct BadRecord<'r> {
     wrong: Wrong,
 }
 
-/// What a field that has spaces at its ends may be.
+/// What is said of a field that may have no spaces at its ends, and has some.
 const NO_SPACES: &str = "no spaces";
 
 /// How many characters of a field are shown, at most.
 const MOST_SHOWN: usize = 40;
 
-/// Appends a text in quotes, with its quotes, backslashes and control characters escaped; of a long
-/// one how it begins, and how many bytes it has.
+/// Appends a text in quotes, with its quotes, backslashes and control characters escaped. Only its
+/// first 40 characters are shown, and its length if it has more than 40 bytes.
 fn push_quoted(text: &mut String, field: &str) -> Result<(), NoMemory> {
     text.push_str("\"")?;
     for c in field.chars().take(MOST_SHOWN) {
@@ -62,12 +63,13 @@ fn push_quoted(text: &mut String, field: &str) -> Result<(), NoMemory> {
     Ok(())
 }
 
-/// Whether a field has a space, a tab or an end of a line at one of its ends.
+/// Whether a field begins or ends with a space, a tab or an end of a line.
 fn has_outer_space(field: &[u8]) -> bool {
     field.trim_ascii().len() < field.len()
 }
 
-/// Appends the name of a field, what stands there, and what may.
+/// Appends the name of a field, what it has, and what it may have, `values` and `more`; or its
+/// first byte that is not UTF-8.
 fn push_field(
     text: &mut String,
     name: &str,
@@ -88,7 +90,7 @@ fn push_field(
     }
 }
 
-/// Of a record that belongs into another file, what it is, and which command takes it.
+/// If a record belongs in another kind of file: what it is, and which command takes it.
 fn stranger(bad: &BadRecord<'_>) -> Option<&'static str> {
     let is_of_plan = bad.of.removes || !matches!(bad.of.kind, RowKind::Other);
     match bad.in_file {
@@ -100,8 +102,8 @@ fn stranger(bad: &BadRecord<'_>) -> Option<&'static str> {
     }
 }
 
-/// Whether a record has the names of fields and no value: more than one field, and none that begins
-/// with a digit.
+/// Whether a record looks like a header row: more than one field, and none that begins with a
+/// digit.
 fn is_header(fields: &[&[u8]]) -> bool {
     1 < fields.len()
         && !fields.iter().any(
@@ -109,7 +111,7 @@ fn is_header(fields: &[&[u8]]) -> bool {
         )
 }
 
-/// What a record without a kind is, if it can be told.
+/// What a record of an unknown kind is, if it shows that.
 fn what_stands(bad: &BadRecord<'_>) -> Option<&'static str> {
     let kind = bad.kind;
     if bad.fields.iter().all(|field| field.is_empty()) {
@@ -150,12 +152,12 @@ fn push_kind(text: &mut String, bad: &BadRecord<'_>) -> Result<(), NoMemory> {
     push_field(text, "kind", kind, kinds, "")
 }
 
-/// Whether the records of a kind have a text or a name, in which a comma may stand.
+/// Whether the records of a kind have a text or a clerk's name, which may contain commas.
 fn has_text(kind: &[u8]) -> bool {
     kind == b"inspection".as_slice() || kind == b"order".as_slice() || kind == b"close".as_slice()
 }
 
-/// What may have brought a record more fields than its kind has; nothing where that is unknown.
+/// Why a record may have more fields than its kind; empty where no reason is known.
 fn why_more(bad: &BadRecord<'_>, most: usize) -> &'static str {
     let found = bad.fields.len();
     match bad.of.kind {
@@ -171,7 +173,7 @@ fn why_more(bad: &BadRecord<'_>, most: usize) -> &'static str {
     }
 }
 
-/// Appends how many fields a record has and how many it should, and what may have brought it more.
+/// Appends how many fields a record has, how many it should have, and why it may have more.
 fn push_count(text: &mut String, bad: &BadRecord<'_>) -> Result<(), NoMemory> {
     let found = bad.fields.len();
     let most = fields_behind(bad.of, bad.kind).len().saturating_add(1);
@@ -190,7 +192,7 @@ fn has_form_of_day(field: &[u8]) -> bool {
         })
 }
 
-/// What else is said of what a field may be, by its fault.
+/// What is added, by its fault, to what a field may have.
 fn more_on(fault: RowFault, field: &[u8]) -> &'static str {
     match fault {
         RowFault::Number(_) => ", in digits without leading zeros",

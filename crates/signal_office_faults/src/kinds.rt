@@ -39,7 +39,7 @@ fn row_kind(name: &[u8]) -> RowKind
     }
 }
 
-/// The kind of a row or a key, by its fields, of which the first is its name.
+/// The kind of a row or a key, by its fields, which begin with its name.
 fn kind_of_row(fields: &[&[u8]]) -> RowKind
     ensures { result ≡ kind_of_row (texts fields.now) }
 {

@@ -1,9 +1,9 @@
 //! What a job comes to: what is printed, or the fault with which the program ends.
 //!
-//! CSV files come as spreadsheets leave them, with records that are padded with empty fields; their
-//! users look for the line of a record, for what is wrong with a bad one, and for the records of a
-//! plan that put or remove a key again. A file of the system is read here, or looked for, and files
-//! are put into a folder by their names; what the system refuses of them is said on standard error.
+//! For users of CSV files the crate drops the empty fields with which spreadsheets pad records, and
+//! finds the line of a record, what is wrong with a bad one, and the records of a plan that put or
+//! remove a key again. It reads and finds files, puts files into a folder by name, and notes on
+//! standard error what the system refuses.
 #![tactic(auto)]
 
 mod bad_records;

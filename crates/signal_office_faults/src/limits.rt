@@ -1,4 +1,4 @@
-//! How long a CSV file may be, and each of its records, so that to read it takes bounded memory.
+//! How long a CSV file and each of its records may be, so that reading it takes bounded memory.
 
 use crate::fault::Fault;
 use crate::lines::{Reading, after_byte, line_after, unmarked};
@@ -7,7 +7,7 @@ use crate::standard_error::note;
 /// The most bytes of a CSV file: 64 MiB.
 pub const MOST_BYTES: usize = 67_108_864;
 
-/// The most bytes of a record of a CSV file: 1 MiB.
+/// The most bytes of a record of a CSV file, with the first byte of its line end: 1 MiB.
 const MOST_RECORD_BYTES: usize = 1_048_576;
 
 /// The most records of a CSV file.
@@ -29,7 +29,7 @@ pub enum TooLong {
 }
 
 impl TooLong {
-    /// Says on standard error why a CSV file is not read, and gives the fault.
+    /// Says on standard error why a CSV file is not read, and gives the fault `File`.
     pub fn told(self, rt: &HostRuntime, path: &str) -> Fault {
         match self {
             TooLong::File => note(rt, "", path, " has more than 64 MiB"),
@@ -54,15 +54,15 @@ impl TooLong {
 #[derive(Clone, Copy)]
 struct Progress {
     reading: Reading,
-    /// The byte before.
+    /// The last byte that it read.
     last: u8,
-    /// The line on which it stands, counted from 1.
+    /// The line of that byte, counted from 1.
     line: usize,
-    /// How many records it began.
+    /// How many records have begun.
     records: usize,
     /// The line on which the last of them begins.
     begun: usize,
-    /// How many bytes of that record it read.
+    /// How many bytes of that record it has read.
     bytes: usize,
 }
 
@@ -117,8 +117,8 @@ fn excess(csv: &[u8]) -> Option<TooLong> {
     }
 }
 
-/// Finds out whether a CSV file may be read as a whole: none of its records has more than 1 MiB,
-/// and it has at most 100,000. Else the fault is `File`, after a note that names the file.
+/// Checks that a CSV file has at most 100,000 records, and none of more than 1 MiB. Else the fault
+/// is `File`, after a note that names the file.
 pub fn check_length(rt: &HostRuntime, name: &str, csv: &[u8]) -> Result<(), Fault> {
     match excess(csv) {
         Some(why) => Err(why.told(rt, name)),

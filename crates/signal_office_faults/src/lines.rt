@@ -3,7 +3,7 @@
 use signal_records::NoMemory;
 use std::alloc::Global;
 
-/// Where a reader of CSV stands.
+/// Where a reader of CSV is.
 #[derive(Clone, Copy)]
 pub(crate) enum Reading {
     /// Between two records.
@@ -14,11 +14,11 @@ pub(crate) enum Reading {
     Plain,
     /// In quotes.
     Quoted,
-    /// Behind a quote in quotes, which ends them unless another follows.
+    /// After a quote in quotes, which ends them unless another quote follows.
     Closed,
 }
 
-/// Where a reader stands after a byte, by where it stood before.
+/// Where a reader is after a byte, by where it was before.
 pub(crate) fn after_byte(reading: Reading, byte: u8) -> Reading {
     match (reading, byte) {
         (Reading::Quoted, b'"') => Reading::Closed,
@@ -30,7 +30,7 @@ pub(crate) fn after_byte(reading: Reading, byte: u8) -> Reading {
     }
 }
 
-/// The bytes of a file, without the mark that a file in UTF-8 may begin with.
+/// The bytes of a file, without the byte order mark that a file in UTF-8 may begin with.
 pub(crate) fn unmarked(csv: &[u8]) -> &[u8] {
     match csv {
         [0xEF, 0xBB, 0xBF, rest @ ..] => rest,
@@ -38,7 +38,7 @@ pub(crate) fn unmarked(csv: &[u8]) -> &[u8] {
     }
 }
 
-/// The line on which a byte stands, by the byte before it and that one's line.
+/// The line of a byte, if `last` is the byte before it and `line` that byte's line.
 pub(crate) fn line_after(line: usize, last: u8, byte: u8) -> usize {
     if last == b'\n' || (last == b'\r' && byte != b'\n') {
         line.saturating_add(1)
@@ -48,8 +48,8 @@ pub(crate) fn line_after(line: usize, last: u8, byte: u8) -> usize {
 }
 
 /// The line on which each record of a CSV file begins, counted from 1. A line ends with a line
-/// feed, a carriage return, or both; a record may stand on more than one line, and an empty line is
-/// no record. `NoMemory` means that a growth was refused.
+/// feed, a carriage return, or both; a record may take more than one line, and an empty line is no
+/// record.
 pub fn record_lines(alloc: Global, csv: &[u8]) -> Result<Vec<usize>, NoMemory> {
     let mut lines = Vec::new(alloc);
     let mut reading = Reading::Between;

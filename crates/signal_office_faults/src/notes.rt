@@ -6,7 +6,7 @@ use std::alloc::{AllocError, Global};
 use std::collections::BTreeMap;
 use std::fmt::Write;
 
-/// How many records are noted, at most; of more their number is told.
+/// How many records are noted one by one, at most; the others are only counted.
 const MOST_NOTES: usize = 100;
 
 /// Appends a key, as `split 3 phase 4`.
@@ -19,7 +19,8 @@ fn push_key(text: &mut String, key: Key) -> Result<(), AllocError> {
     }
 }
 
-/// Appends the note that the record with this number puts or removes a key again.
+/// Appends the note that the record with this number puts or removes a key again, after the record
+/// `earlier`.
 fn push_note(
     text: &mut String,
     other: bool,
@@ -50,8 +51,8 @@ fn push_rest(text: &mut String, other: bool, more: usize) -> Result<(), AllocErr
     )
 }
 
-/// The notes on changes, which are numbered from 1, in their order. On the way, the number of the
-/// latest change of each key is kept.
+/// The notes on changes, in order. `latest` has the number of the latest change of each key so far,
+/// counted from 1.
 fn notes_on(alloc: Global, other: bool, changes: &[Change]) -> Result<String, NoMemory> {
     let mut text = String::new(alloc);
     let mut latest = BTreeMap::new(alloc);
@@ -70,10 +71,9 @@ fn notes_on(alloc: Global, other: bool, changes: &[Change]) -> Result<String, No
     Ok(text)
 }
 
-/// A line for each record of a plan's CSV file that puts or removes a key that an earlier record
-/// has, with the latest such record, for the first hundred of them, and one with the number of the
-/// others; none for a file that is no plan. `other` says that the file is the second of two.
-/// `NoMemory` means that a growth was refused.
+/// A line for each of the first hundred records of a plan's CSV file that put or remove a key
+/// again, with the number of the latest earlier record of that key, and a line with the number of
+/// the others; empty for a file that is no plan. `other` says that the file is the second of two.
 pub fn notes_in(alloc: Global, other: bool, csv: &[u8]) -> Result<String, NoMemory> {
     match read_timing_csv(alloc, csv) {
         Ok(changes) => notes_on(alloc, other, &changes),

@@ -1,4 +1,5 @@
-//! Files whose records a spreadsheet has padded with empty fields.
+//! Files whose records a spreadsheet has padded with empty fields. The padding of a record is what
+//! follows the fields of its kind, if all of that is empty.
 
 ghost use Rattle.std.specs.Prelude.{◌≡◌, map, IfOk, List, Ok};
 ghost use Rattle.csv.specs.Records.{fields_of};
@@ -15,19 +16,17 @@ use office_files::{csv_file, fields_in, read_records};
 use signal_records::NoMemory;
 use std::alloc::Global;
 
-/// The mark that a file in UTF-8 may begin with.
+/// The byte order mark that a file in UTF-8 may begin with.
 const BYTE_ORDER_MARK: &[u8] = b"\xEF\xBB\xBF";
 
-/// The record of these fields without those at its end that its kind does not have, if all of these
-/// are empty.
+/// The record of these fields without its padding.
 fn unpadded_record(alloc: Global, fields: &[&[u8]]) -> Result<ByteRecord, NoMemory>
     ensures { IfOk result (λ row. fields_of row ≡ unpadded (texts fields.now)) }
 {
     ByteRecord::from_fields(alloc, unpadded(fields))
 }
 
-/// The records in their order, but those of empty fields alone; each without the fields at its end
-/// that its kind does not have, if all of these are empty.
+/// The records in order, each without its padding, and without those whose fields are all empty.
 fn unpadded_records(alloc: Global, records: &[ByteRecord]) -> Result<Vec<ByteRecord>, NoMemory>
     ensures { IfOk result (λ rows.
         map fields_of rows.items ≡ unpadded_rows (map fields_of records.now)) }
@@ -42,8 +41,8 @@ fn unpadded_records(alloc: Global, records: &[ByteRecord]) -> Result<Vec<ByteRec
     Ok(rows)
 }
 
-/// The file of these records, behind a byte order mark, so that a reader takes off that mark and
-/// nothing of the first field.
+/// The file of these records after a byte order mark. A reader drops that mark, and no other one
+/// with which the first field may begin.
 pub(crate) fn marked_file(alloc: Global, records: &[ByteRecord]) -> Result<Vec<u8>, NoMemory>
     ensures { IfOk result (λ text. text.items ≡ marked_text (map fields_of records.now)) }
 {
@@ -54,8 +53,7 @@ pub(crate) fn marked_file(alloc: Global, records: &[ByteRecord]) -> Result<Vec<u
     Ok(text)
 }
 
-/// The file of the records of a file but those of empty fields alone, each record without the
-/// fields at its end that its kind does not have, if all of these are empty.
+/// The CSV file that `unpadded_csv` gives for these bytes.
 fn unpadded_file(alloc: Global, bytes: &[u8]) -> Result<Vec<u8>, NoMemory>
     ensures { IfOk result (λ text. text.items ≡ unpadded_text bytes.now) }
 {
@@ -64,10 +62,9 @@ fn unpadded_file(alloc: Global, bytes: &[u8]) -> Result<Vec<u8>, NoMemory>
     marked_file(alloc, &rows)
 }
 
-/// A CSV file with the records of another, each without the fields at its end that its kind does
-/// not have, if all of these are empty, as where a spreadsheet has padded it. A record of empty
-/// fields alone is left out, as an empty line is, and a good one stays as it is. The file begins
-/// with a byte order mark. `NoMemory` means that a growth was refused.
+/// A CSV file with the records of another, each without its padding, after a byte order mark. A
+/// record whose fields are all empty is left out, as an empty line is. A good file still says the
+/// same.
 pub fn unpadded_csv(alloc: Global, bytes: &[u8]) -> Result<Vec<u8>, NoMemory>
     ensures good_plan { IfOk result (λ text. (changes : List Change) →
         changes_of bytes.now ≡ Ok changes → changes_of text.items ≡ Ok changes) }
@@ -77,8 +74,8 @@ pub fn unpadded_csv(alloc: Global, bytes: &[u8]) -> Result<Vec<u8>, NoMemory>
     unpadded_file(alloc, bytes)
 }
 
-/// Of the lines on which the records of a file begin, those of the records that `unpadded_csv`
-/// keeps. `NoMemory` means that a growth was refused.
+/// The lines on which the records begin that `unpadded_csv` does not leave out. `lines` has the
+/// line of each record of the file.
 pub fn unpadded_lines(
     alloc: Global,
     bytes: &[u8],

@@ -1,5 +1,5 @@
-//! Notes on standard error: lines that name what a fault is about, and say what the system said of
-//! it. A note that can't be written is passed over.
+//! Notes on standard error: lines that name what a fault is about, and why the system refused it. A
+//! note that can't be written is dropped.
 
 use std::io::{self, Write};
 
@@ -19,7 +19,7 @@ pub fn note(rt: &HostRuntime, before: &str, name: &str, after: &str) {
     }
 }
 
-/// Says with which error the system refuses what has this name: a file, a folder or a port.
+/// Says with which error the system refuses the file, folder or port of this name.
 pub fn note_system(rt: &HostRuntime, name: &str, error: io::Error) {
     if let Ok(why) = format!(in rt.alloc(); ": {error}") {
         note(rt, "the system refuses ", name, why.as_str());

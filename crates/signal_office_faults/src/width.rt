@@ -6,7 +6,7 @@ ghost use Rattle.signal_office_faults.specs.Padded.{are_blank, phase_width, reco
 
 use crate::kinds::{RowKind, record_kind_of};
 
-/// The fields up to a width; all, where there are no more.
+/// The first `width` fields, or all if there are fewer.
 fn front<'f, 'a>(fields: &'f [&'a [u8]], width: usize) -> &'f [&'a [u8]]
     ensures { texts result.now ≡ take width (texts fields.now) }
 {
@@ -38,16 +38,16 @@ fn are_blank_after(fields: &[&[u8]], width: usize) -> bool
     }
 }
 
-/// How many fields the record of a phase has: 9, or 15 with a pedestrian part, which is there where
-/// any field after the ninth is not empty.
+/// How many fields the record of a phase has: 15 if any field after the ninth, of its pedestrian
+/// part, is not empty; else 9.
 fn phase_width(fields: &[&[u8]]) -> usize
     ensures { result ≡ phase_width (texts fields.now) }
 {
     if are_blank_after(fields, 9) { 9 } else { 15 }
 }
 
-/// How many fields a record of the register has, by its kind, which is its first field; none for
-/// other records.
+/// How many fields a record of the register has, by its first field, its kind; `None` for other
+/// records.
 fn record_width(fields: &[&[u8]]) -> Option<usize>
     ensures { result ≡ record_width (texts fields.now) }
 {
@@ -69,7 +69,7 @@ fn record_width(fields: &[&[u8]]) -> Option<usize>
     }
 }
 
-/// How many fields a record of a plan or of the register has, by its kind; none for an unknown
+/// How many fields a record of a plan or of the register has, by its kind; `None` for an unknown
 /// kind.
 fn width_of(fields: &[&[u8]]) -> Option<usize>
     ensures { result ≡ width_of (texts fields.now) }
@@ -85,8 +85,7 @@ fn width_of(fields: &[&[u8]]) -> Option<usize>
     }
 }
 
-/// The fields of a record without those at its end that its kind does not have, where all of these
-/// are empty; else all of its fields.
+/// The fields that the kind of a record has, if all after them are empty; else all of its fields.
 pub(crate) fn unpadded<'f, 'a>(fields: &'f [&'a [u8]]) -> &'f [&'a [u8]]
     ensures { texts result.now ≡ unpadded (texts fields.now) }
 {

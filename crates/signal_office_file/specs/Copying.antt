@@ -16,7 +16,7 @@ pub record StaysAsRead {D : Type 0} (g : Disk D) (old new : D) : Type 0 where
   pub clean : IsTrue (g.is_clean new) → IsTrue (g.is_clean old)
   pub crash : (left : List ℕ) → g.may_leave new left → g.may_leave old left
 
--- why a copy broke off that was begun: the file was not read; or the output failed, or took no byte
+-- why a copy that was begun broke off: the file could not be read; or the output failed, or took no byte
 abbrev pub CopyBreaksOff : (start end : Told) → Fault → Type 0
 CopyBreaksOff start end why = (why ≡ fault.Store) ⊎ ((why ≡ fault.Write) × FailsOrGivesNone start.counts end.counts)
 

@@ -29,11 +29,11 @@ use Rattle.signal_office_file.specs.declared.ended.Ended.TheVariants.{Refused, C
 pub record Work (T : Type 0) : Type 1 where
   -- from the first tables the work gave this and made the second ones, which are kept
   pub does : Content → T → Content → Type 0
-  -- begun over these tables the work gave this, and `leaves Such` holds, which says that a stop leaves only tables that are such
+  -- begun over these tables the work gave this; `leaves Such` says that a stop leaves only tables for which `Such` holds
   pub stops : Content → T → (leaves : (Content → Type 0) → Type 0) → Type 0
   -- nothing was done
   pub untouched : Type 0
-  -- what holds of what the work gave, whatever the disk did
+  -- what is true of what the work gave, whatever the disk did
   pub begun : T → Type 0
   -- the fault that is reported if the work gave this and the file was not closed
   pub unclosed : T → Fault → Type 0
@@ -80,8 +80,8 @@ pub record RunsOver (new : Content) (before after : Office) (requests : List Pla
 abbrev pub ServesStoredOffice : ℕ → Ends → Ends → Content → Result Served ServeFault → Content → Type 0
 ServesStoredOffice limit start end old outcome new = (before : Office) → StandForSound old before → (after : Office) × Did office_protocol (RunsOver new before after) limit start end outcome
 
--- the work of answering at most `limit` requests of a stream between these moments of its ends; that reading or writing failed is told only if a call of
--- that end failed, or the sink took no byte
+-- the work of answering at most `limit` requests of a stream between these moments of its ends; the outcome is Read or Write only if a call of that end
+-- failed, or the sink took no byte
 abbrev pub stream_work : ℕ → Ends → Ends → (untouched : Type 0) → Work (Result Served ServeFault)
 stream_work limit start end untouched = record {
   does = ServesStoredOffice limit start end;
@@ -91,7 +91,7 @@ stream_work limit start end untouched = record {
   unclosed = TellsUnclosed fault_of_stream;
 }
 
--- why bytes were not copied: the file was not read; or memory was refused, and nothing was written; or the output failed or took no byte
+-- why bytes were not copied: the file could not be read; or memory was refused, and nothing was written; or the output failed or took no byte
 abbrev pub IsUncopied : (start end : Told) → Fault → Type 0
 IsUncopied start end why =
     (why ≡ fault.Store) ⊎ (((why ≡ fault.Memory) × (end ≡ start)) ⊎ ((why ≡ fault.Write) × FailsOrGivesNone start.counts end.counts))
@@ -101,7 +101,7 @@ abbrev pub IsCopyOf : (start end : Told) → Content → Result ⊤ Fault → Ty
 IsCopyOf start end tables (Ok done) = (bytes : List ℕ) × Appends start.bytes end.bytes bytes × HoldAlone bytes tables
 IsCopyOf start end tables (Err why) = IsUncopied start end why
 
--- the work of copying a file to an output that told `start` before and `end` after it; the tables stay as they were, also after a stop
+-- the work of copying a file to an output that was as `start` before and is as `end` after it; the tables stay as they were, also after a stop
 abbrev pub copy_work : (start end : Told) → Work (Result ⊤ Fault)
 copy_work start end = record {
   does = λ old done new. (new ≡ old) × IsCopyOf start end old done;
@@ -111,7 +111,7 @@ copy_work start end = record {
   unclosed = TellsUnclosed (λ why. why);
 }
 
--- what came of work, if its files were closed; else the fault with which they were refused or not closed
+-- the result of work, if its files were closed; else the fault with which they were refused or not closed
 abbrev pub told_by : {D : Type 0} {g : Disk D} {T : Type 0} → Ended T D g → Result T Fault
 told_by (Refused why left) = Err why
 told_by (Closed done back) = Ok done

@@ -28,7 +28,7 @@ use Rattle.signal_office_file.specs.Files.{AreUsable, IsAlike, KeepTables}
 use Rattle.signal_office_file.specs.declared.left.FileLeft.{FileLeft}
 use Rattle.signal_office_file.specs.declared.left.FileLeft.TheVariants as left
 
--- the fault is Store (the database or the system refused) or Memory (a growth was refused)
+-- the fault is Store (the database or the system refused) or Memory
 abbrev pub IsStoreOrMemory : Fault → Type 0
 IsStoreOrMemory why = (why ≡ fault.Store) ⊎ (why ≡ fault.Memory)
 
@@ -37,7 +37,7 @@ abbrev pub TellsError : Error → Fault → Type 0
 TellsError error told =
     ((error ≡ SqliteFailure OutOfMemory) × (told ≡ fault.Memory)) ⊎ ((error ≢ SqliteFailure OutOfMemory) × (told ≡ fault.Store))
 
--- the fault that is reported of tables which were refused as they were opened or migrated
+-- the fault that reports tables that were refused when they were opened or migrated
 abbrev pub told_of : OpenFault → Fault
 told_of why.Version = fault.Version
 told_of why.Damaged = fault.Damaged
@@ -91,7 +91,7 @@ module _ {D : Type 0} {g : Disk D} where
   IsCleanFile (left.Unopened back) = IsCleanLeft back
   IsCleanFile (left.Database back) = IsCleanStore over_files (store_left over_files back)
 
-  -- where a database is left, whatever a stop leaves of it is today's tables, with the content of these trees
+  -- if a database is left, whatever a stop leaves of it is today's tables, with the content of these trees
   abbrev pub RecoversTo : Trees → FileLeft D g → Type 0
   RecoversTo trees (left.Database back) = (found : Trees) → over_files.recovers (store_left over_files back) found → IsAlike trees found
   RecoversTo trees _ = Unit {0}

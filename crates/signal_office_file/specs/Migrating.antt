@@ -26,9 +26,9 @@ use Rattle.signal_office_file.specs.declared.ended.Ended.{Ended}
 use Rattle.signal_office_file.specs.declared.ended.Ended.TheVariants.{Refused, Closed, Unclosed}
 use Rattle.signal_office_file.specs.declared.left.FileLeft.{FileLeft}
 
--- What a migration of a database did, as far as it is known on a clean disk. Done, it brought the committed
--- tables to today's version; refused, it left them in an open database as they were; Version and Damaged are
--- told of what was stored. A stop leaves what was committed before, or what becomes of it.
+-- What a migration of a database did, as far as it is known on a clean disk. If done, it brought the
+-- committed tables to today's version; if refused, it left them in an open database as they were. Version and
+-- Damaged are true of what was stored. A stop leaves what was committed before, or what becomes of it.
 pub record MigratesOnDisk
     {S : Type 0} (g : Ghosts S) (outcome : Result Migrated OpenFault)
     (old new : Held S) : Type 0 where
@@ -47,7 +47,7 @@ abbrev pub AreMigrated : Trees → Trees → Result Migrated OpenFault → Type 
 AreMigrated was trees (Ok count) = IsBrought was trees count
 AreMigrated was trees (Err cause) = trees ≡ was
 
--- how many rows a migration wrote anew, of `timing` and `draft` together, or the fault that is reported of it
+-- how many rows a migration rewrote, of `timing` and `draft` together, or the fault that reports its refusal
 abbrev pub told_of_outcome : Result Migrated OpenFault → Result ℕ Fault
 told_of_outcome (Ok count) = Ok (count.timing + count.draft)
 told_of_outcome (Err cause) = Err (told_of cause)

@@ -20,13 +20,13 @@ use Rattle.office_tables_shelf.specs.declared.shelf.Shelf.{Ghosts}
 abbrev pub LeavesAlone : {S : Type 0} → Ghosts S → S → Content → Type 0
 LeavesAlone g shelf tables = (found : Content) → g.may_leave shelf found → found ≡ tables
 
--- On a clean disk: if before the work a stop could leave only the tables that the shelf held, a stop after it leaves only tables of which `Leaves`
--- holds, begun over those.
+-- On a clean disk: if before the work a stop could leave only the tables that the shelf held, a stop after it leaves only tables for which `Leaves`
+-- holds, from those.
 abbrev pub StopsWithin : {S : Type 0} → Ghosts S → (old new : S) → (Content → Content → Type 0) → Type 0
 StopsWithin g old new Leaves =
     TellsTables g old new (λ tables. LeavesAlone g old tables → (found : Content) → g.may_leave new found → Leaves tables found)
 
--- the tables found are the old ones, or such as `After` lets a change of these leave
+-- the tables found are the old ones, or a change of these may leave them, as `After` says
 abbrev pub SameOr : (Content → Content → Type 0) → Content → Content → Type 0
 SameOr After old found = (found ≡ old) ⊎ After old found
 
@@ -57,16 +57,16 @@ pub record MayBeFound (old : Content) (before after : Office) (requests : List P
 
 -- From whichever sound office the old tables stood for, a stream of at most `limit` requests was served between these moments of its ends, by the laws of
 -- the office and with this outcome, and a stop leaves only tables that may be found after its requests. `leaves Such` says that a stop leaves only tables
--- that are such.
+-- for which `Such` holds.
 abbrev pub ServesToAStop : ℕ → Ends → Ends → Content → Result Served ServeFault → (leaves : (Content → Type 0) → Type 0) → Type 0
 ServesToAStop limit start end old outcome leaves =
     (before : Office) → StandForSound old before → (after : Office)
     × Did office_protocol (λ requests answers. KeepsLaws before requests answers after × leaves (MayBeFound old before after requests answers)) limit start end outcome
 
--- such a stream was served; a stop leaves only tables that are so, even where the old tables stood for no office
+-- a stream was served as `ServesToAStop` says; and a stop leaves only tables, even if the old ones stood for no office
 abbrev pub AnswersToAStop : ℕ → Ends → Ends → Content → Result Served ServeFault → (leaves : (Content → Type 0) → Type 0) → Type 0
 AnswersToAStop limit start end old outcome leaves = leaves (λ _. ⊤) × ServesToAStop limit start end old outcome leaves
 
--- such a stream was served, and a stop after it may leave the tables found
+-- a stream was served as `ServesToAStop` says, and a stop after it may leave the tables found
 abbrev pub IsServedToAStop : ℕ → Ends → Ends → Content → Result Served ServeFault → Content → Type 0
 IsServedToAStop limit start end old outcome found = ServesToAStop limit start end old outcome (λ Such. ∥ Such found ∥₁)

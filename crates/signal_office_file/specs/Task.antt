@@ -5,11 +5,11 @@ use Rattle.office_tables_shelf.specs.declared.shelf.Shelf.{Ghosts}
 use Rattle.signal_office_faults.specs.declared.fault.Fault.{Fault}
 use Rattle.signal_office_file.specs.Stopping.{StopsWithin}
 
--- What becomes of the tables of an office by a task, and what a stop may leave of them.
+-- What a task makes of the tables of an office, and what a stop may leave of them.
 pub record Effect (T : Type 0) : Type 1 where
   -- from the first tables the task gave this and made the second ones
   pub does : Content → Result T Fault → Content → Type 0
-  -- of the task, begun over the first tables, a stop may leave the second ones
+  -- a stop of the task, begun over the first tables, may leave the second ones
   pub leaves : Content → Content → Type 0
 
 -- A task was done by an office. If the disk is clean (it has returned what was written), it was so before; if the office is honest (no failure has

@@ -1,6 +1,6 @@
 //! Work over the office in the file at a path: the file is opened, used and closed again. While
-//! another run has it open, it is tried again for up to `wait` seconds. No clause ties a path to
-//! what its file holds.
+//! another run has it open, this run waits for up to `wait` seconds. No clause ties a path to what
+//! its file holds.
 
 use crate::copying::copied_in;
 use crate::ended::Ended;
@@ -14,9 +14,9 @@ use signal_office_faults::Fault;
 use sqlite_disk::Disk;
 use std::alloc::Global;
 
-/// What came of work over the files at a path, or the fault of files that were refused or could not
-/// be closed. If they were refused with `Store` though the system refused no call, a note on
-/// standard error says what the file holds. Reading it may give up its lock, which no write needs
+/// The result of work over the files at a path, or the fault of files that were refused or could
+/// not be closed. If they were refused with `Store` though the system refused no call, a note on
+/// standard error says what the file holds. Reading it may release its lock, which no write needs
 /// any more.
 fn told_at<T: Drop, D: Disk + Drop>(notes: &CallNotes<'_>, ended: Ended<T, D>) -> Result<T, Fault> {
     if matches!(ended, Ended::Refused(Fault::Store, _)) {
@@ -61,7 +61,7 @@ pub fn answer_stream<R: Source, W: Sink>(
 }
 
 /// Brings the tables of the file at `path` to today's version, closes the file, and gives how many
-/// rows were written anew. With a fault, the tables of a file that was closed are as they were.
+/// rows were rewritten. On a fault the tables are as they were, if the file was closed.
 pub fn migrate_at(rt: &HostRuntime, alloc: Global, path: &str, wait: u32) -> Result<u128, Fault> {
     let (files, options) = files_at(rt, path, wait)?;
     let notes = CallNotes::new(rt, path);
@@ -69,9 +69,9 @@ pub fn migrate_at(rt: &HostRuntime, alloc: Global, path: &str, wait: u32) -> Res
 }
 
 /// Opens the office in the file at `path` and closes it, so that its log is copied into the file,
-/// and then writes the bytes of the file to `out`. The copy of a closed file fails with `Store` if
-/// the file is not read, `Memory` before any byte is written, or `Write` if `out` fails or takes no
-/// byte.
+/// and then writes the bytes of the file to `out`. If the file was closed, the copy fails with
+/// `Store` if the file can't be read, `Memory` before any byte is written, or `Write` if `out`
+/// fails or takes no byte.
 pub fn copy_at<W: Sink>(
     rt: &HostRuntime,
     alloc: Global,

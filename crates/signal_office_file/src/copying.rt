@@ -17,9 +17,9 @@ use sqlite_disk::{Disk, Files};
 use std::alloc::Global;
 
 /// Opens the office in the two files and closes it, so that its log is copied into the database
-/// file, and then writes the bytes of that file to the sink: they alone are the whole office. The
-/// copy of closed files fails with `Store` if the file is not read, `Memory` before any byte is
-/// written, or `Write` if the sink fails or takes no byte.
+/// file, and then writes the bytes of that file to the sink: they alone are the whole office. If
+/// the files were closed, the copy fails with `Store` if the file can't be read, `Memory` before
+/// any byte is written, or `Write` if the sink fails or takes no byte.
 pub fn copied_in<D: Disk + Drop, W: Sink>(
     alloc: Global,
     files: Files<D>,
@@ -45,7 +45,8 @@ pub fn copied_in<D: Disk + Drop, W: Sink>(
 const BLOCK: usize = 1_048_576;
 
 /// Fills the block with the bytes of a file from the offset `at` on, and writes them to the sink.
-/// It fails with `Store` if they are not read, and with `Write` if the sink fails or takes no byte.
+/// It fails with `Store` if they can't be read, and with `Write` if the sink fails or takes no
+/// byte.
 fn copy_block<D: Disk, W: Sink>(
     file: &mut D,
     at: usize,
@@ -70,8 +71,8 @@ fn copy_block<D: Disk, W: Sink>(
     }
 }
 
-/// Writes the first `len` bytes of a file to the sink, in their order, at most a block of them at a
-/// time. It fails with `Store` or `Write`.
+/// Writes the first `len` bytes of a file to the sink, in order, at most a block at a time. It
+/// fails with `Store` or `Write`.
 fn copy_blocks<D: Disk, W: Sink>(
     file: &mut D,
     len: usize,

@@ -7,12 +7,12 @@ use crate::left::FileLeft;
 use signal_office_faults::Fault;
 use sqlite_disk::{Disk, Files};
 
-/// How work over the two files of an office ended: `T` is what came of the work.
+/// How work over the two files of an office ended: `T` is the result of the work.
 #[derive(Drop)]
 pub enum Ended<T, D: Disk> {
     /// The files were refused, and no work was done: why, and what is left of them.
     Refused(Fault, FileLeft<D>),
-    /// The files were closed. What came of the work may be a fault of its own.
+    /// The files were closed. The result of the work may be a fault of its own.
     Closed(T, Files<D>),
     /// The files could not be closed. The fault is that of the work, if it had one, or else that of
     /// closing.
@@ -20,8 +20,8 @@ pub enum Ended<T, D: Disk> {
 }
 
 impl<T: Drop, D: Disk + Drop> Ended<T, D> {
-    /// What came of the work, if the files were closed; else the fault with which they were refused
-    /// or not closed. The files, or what is left of them, are let go.
+    /// The result of the work, if the files were closed; else the fault with which they were
+    /// refused or not closed. The files, or what is left of them, are dropped.
     pub fn told(self) -> Result<T, Fault>
         ensures { result ≡ told_by self }
     {

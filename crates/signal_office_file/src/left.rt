@@ -17,7 +17,7 @@ pub enum FileLeft<D: Disk> {
 }
 
 impl<D: Disk + Drop> FileLeft<D> {
-    /// The database, if it was not closed: its connection, or its store. Anything else is let go.
+    /// The database, if it was not closed: its connection, or its store. Anything else is dropped.
     pub fn database(self) -> Option<Left<FileStore<D>>>
         ensures { result ≡ database_of self }
     {
@@ -28,7 +28,7 @@ impl<D: Disk + Drop> FileLeft<D> {
     }
 }
 
-/// Lets go a database, or its store.
+/// Drops a database, or its store.
 fn let_go<S: Alter + Drop>(_left: Left<S>) {}
 
 // The drop is written out, so that a caller does not prove again how each part is dropped.
@@ -44,8 +44,7 @@ impl<D: Disk + Drop> Drop for FileLeft<D> {
 /// Why the files of an office were refused or not closed, and what is left of them.
 pub type Refused<D> = (Fault, FileLeft<D>);
 
-/// The fault that is reported of an error of the database: `Memory` if memory was refused, else
-/// `Store`.
+/// The fault that reports an error of the database: `Memory` if memory was refused, else `Store`.
 pub(crate) fn fault_of_database(error: Error) -> Fault
     ensures { TellsError error result }
 {
@@ -55,7 +54,7 @@ pub(crate) fn fault_of_database(error: Error) -> Fault
     }
 }
 
-/// The fault that is reported of tables which were refused as they were opened or migrated.
+/// The fault that reports tables that were refused when they were opened or migrated.
 pub(crate) fn fault_of_opening(fault: OpenFault) -> Fault
     ensures { result ≡ told_of fault }
 {

@@ -1,7 +1,7 @@
 //! The office over the tables of a file: opened, used for a task or a stream of requests, closed,
 //! copied, and brought from version 1 to today's. A call takes the two files of an office, the log
-//! and the database file, and gives back what is left of them; those of `at_path` open the files at
-//! a path, and give what came of the work.
+//! and the database file, and gives back what is left of them; the calls of `at_path` open the
+//! files at a path themselves, and give the result of the work.
 #![tactic(auto)]
 
 mod at_path;

@@ -14,22 +14,21 @@ use sqlite::Options;
 use sqlite_disk::{Disk, Files};
 use std::alloc::Global;
 
-/// Brings the tables in the two files of an office, its database and the log, from version 1 to
-/// today's, which may be refused, and closes the files, so that the log is copied. It gives how
-/// many rows were written anew (none if today's version was stored) or the fault, and what is left
-/// of the files. `Version` means that another version is stored or none, `Damaged` that a row of
-/// `timing` or `draft` is none of version 1, `Store` that the files or the database refused or that
-/// the tables have another layout, `Memory` that a growth was refused.
+/// Brings the tables in the two files of an office, the log and the database file, from version 1
+/// to today's, and closes the files, so that the log is copied. It gives how many rows were
+/// rewritten (0 if today's version was stored) or the fault, and the files or what is left of them.
+/// `Version` means that another version is stored or none, `Damaged` that a row of `timing` or
+/// `draft` is no row of version 1, `Store` also that the tables have another layout.
 pub fn migrate_file<D: Disk + Drop>(
     alloc: Global,
     files: Files<D>,
     options: Options,
 ) -> Ended<Result<u128, Fault>, D>
-    // On a clean disk, which returned what was written, closed files hold what became of their
-    // tables, with the count of the rows that were written anew, or where that was refused, the
-    // tables as they were; of files that could not be closed a stop leaves either. Tables that
-    // stood for an office in version 1 stand for it today, once that was done: so a run over the
-    // files that came back begins from that office.
+    // On a clean disk, which returned what was written, closed files hold the migrated tables, with
+    // the count of rewritten rows, or, if the migration was refused, the tables as they were; a
+    // stop leaves either of files that could not be closed. Migrated tables stand for the office
+    // that they stood for in version 1, so a run over the files that came back begins from that
+    // office.
     ensures { MigratesFiles files result }
 {
     let mut conn = match database_in(alloc, files, options) {
@@ -44,8 +43,8 @@ pub fn migrate_file<D: Disk + Drop>(
     }
 }
 
-/// How many rows a migration wrote anew, of `timing` and of `draft` together, or the fault that is
-/// reported of it.
+/// How many rows a migration rewrote, of `timing` and `draft` together, or the fault that reports
+/// its refusal.
 fn rows_written(outcome: Result<Migrated, OpenFault>) -> Result<u128, Fault>
     ensures { result ≡ told_of_outcome outcome }
 {

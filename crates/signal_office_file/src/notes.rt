@@ -1,5 +1,5 @@
-//! What is said on standard error, beside the fault, of a file in which no office can be opened,
-//! and of one that another run has open. A note that can't be written is passed over.
+//! Notes on standard error, besides the fault, on a file in which no office can be opened, and on
+//! one that another run has open. A note that can't be written is dropped.
 
 use signal_office_faults::{Fault, note, note_system};
 use sqlite_std_file::OpenError;
@@ -10,7 +10,7 @@ use std::os::unix::fs::MetadataExt;
 /// The first 16 bytes of each database file of SQLite that is not empty.
 const HEAD: &[u8] = b"SQLite format 3\0";
 
-/// Says that another run has the file open, and is waited for.
+/// Says that another run has the file open, and that this one waits.
 pub(crate) fn note_wait(rt: &HostRuntime, path: &str) {
     note(rt, "another run has ", path, " open; waiting");
 }
@@ -25,8 +25,7 @@ pub(crate) fn note_away(rt: &HostRuntime, path: &str, fault: &Fault) {
     }
 }
 
-/// What is wrong with what stands at a path where a plain file with one name is needed, as the end
-/// of a note.
+/// What is wrong with a path at which a plain file with one name is needed, as the end of a note.
 fn what_stands(rt: &HostRuntime, path: &str) -> &'static str {
     match fs::metadata(rt, path) {
         Ok(found) if found.is_dir() => " is a folder",
@@ -37,8 +36,8 @@ fn what_stands(rt: &HostRuntime, path: &str) -> &'static str {
     }
 }
 
-/// Says why the files at a path were not opened. That memory was refused needs no note, nor does
-/// another run that was waited for.
+/// Says why the files at a path were not opened. There is no note if memory was refused, or if a
+/// note has already said that this run waits for another.
 pub(crate) fn note_refusal(rt: &HostRuntime, path: &str, error: &OpenError, waited: bool) {
     match error {
         OpenError::OutOfMemory => {}
@@ -64,7 +63,7 @@ pub(crate) fn note_random(rt: &HostRuntime, error: io::Error) {
     note_system(rt, "a random number", error);
 }
 
-/// Says that SQLite takes a path for something else than the name of a file, and how to write it.
+/// Says that SQLite does not take a path as the name of a file, and how to write it.
 pub(crate) fn note_name(rt: &HostRuntime, path: &str) {
     let named = path.escape_debug();
     if let Ok(after) = format!(in rt.alloc(); " names no file for SQLite; write ./{named}") {

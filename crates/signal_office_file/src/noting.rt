@@ -1,5 +1,5 @@
-//! The two files of an office, of which the calls that the system refuses are said on standard
-//! error: why a file is not opened, a change is answered 503, or a command ends with `Store`.
+//! The two files of an office, with a note on standard error for each call that the system refuses:
+//! it says why a file is not opened, a change is answered 503, or a command ends with `Store`.
 
 ghost use Rattle.std.specs.Prelude.{◌≡◌};
 
@@ -9,20 +9,20 @@ use sqlite_disk::{Disk, Files, Tally};
 use std::cell::Cell;
 use std::io::{self, ErrorKind};
 
-/// What is said of the calls that the system refuses of the files at a path.
+/// The notes on calls that the system refuses on the files at a path.
 #[derive(Drop)]
 pub(crate) struct CallNotes<'a> {
     rt: &'a HostRuntime,
     path: &'a str,
-    /// What was said last: a refusal is not said again until another one was.
+    /// The kind of error that was noted last. It is noted again only after another kind.
     last: Cell<Option<ErrorKind>>,
 }
 
-/// A file of an office, of which the calls that the system refuses are said.
+/// A file of an office, with a note for each call that the system refuses.
 #[derive(Drop)]
 pub(crate) struct Noting<'n, 'a, D: Disk> {
     inner: D,
-    /// What the name of the file has behind the path.
+    /// What the name of the file has after the path.
     ending: &'static str,
     notes: &'n CallNotes<'a>,
 }
@@ -37,7 +37,7 @@ impl<'a> CallNotes<'a> {
         }
     }
 
-    /// The two files, of which the calls that the system refuses are said.
+    /// The two files, with a note for each call that the system refuses.
     pub(crate) fn on<'n, D: Disk>(&'n self, files: Files<D>) -> Files<Noting<'n, 'a, D>> {
         Files {
             log: Noting {
@@ -53,7 +53,7 @@ impl<'a> CallNotes<'a> {
         }
     }
 
-    /// Says what the file holds in which no office could be opened, unless the system refused a
+    /// Says what the file holds, in which no office could be opened, unless the system refused a
     /// call.
     pub(crate) fn say_content(&self) {
         if self.last.get().is_none() {
@@ -61,7 +61,7 @@ impl<'a> CallNotes<'a> {
         }
     }
 
-    /// Says why the system refuses a call of a file. What was read and is not as it must be, as a
+    /// Says why the system refuses a call on a file. Content that is not as it must be, such as a
     /// file that ends too early, is no refusal.
     fn say(&self, ending: &str, error: io::Error) {
         let is_found = matches!(
@@ -80,7 +80,7 @@ impl<'a> CallNotes<'a> {
     }
 }
 
-/// What a call answered. If the system refused it, that is said.
+/// The answer of a call. If the system refused it, a note says so.
 fn say_refusal<T>(notes: &CallNotes<'_>, ending: &str, answer: io::Result<T>) -> io::Result<T>
     ensures { result ≡ answer }
 {

@@ -21,7 +21,7 @@ use std::alloc::Global;
 /// An office over tables in files.
 pub type FileOffice<D> = Office<SqlShelf<FileStore<D>>>;
 
-/// The database in the two files, which is made where the database file is empty. Files of which a
+/// The database in the two files, which is made where the database file is empty. Files on which a
 /// sync has failed are not used. A refusal is `Store` or `Memory`, with what is left of the files.
 pub(crate) fn database_in<D: Disk + Drop>(
     alloc: Global,
@@ -62,8 +62,7 @@ fn office_over<S: Alter + Drop>(
 
 /// The office over the tables in the two files, which are made where there are none. A refusal
 /// gives what is left of the files, with `Version` if another version is stored, `Damaged` if a
-/// table has a row and no version is stored, `Store` if the files or the database refused, or
-/// `Memory`.
+/// table has a row and no version is stored, `Store` or `Memory`.
 pub fn open_file<D: Disk + Drop>(
     alloc: Global,
     files: Files<D>,
@@ -81,8 +80,8 @@ pub fn open_file<D: Disk + Drop>(
     }
 }
 
-/// Closes a database, so that its log is copied, and gives its files back. Where that fails, with
-/// `Store` or `Memory`, its store is left.
+/// Closes a database, so that its log is copied, and gives its files back. If that fails, with
+/// `Store` or `Memory`, the store of the database is left.
 pub(crate) fn close_file<D: Disk + Drop>(
     conn: Connection<FileStore<D>>,
 ) -> Result<Files<D>, Refused<D>>

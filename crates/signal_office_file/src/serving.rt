@@ -59,7 +59,8 @@ pub fn serve_file<D: Disk + Drop, R: Source, W: Sink>(
         (ends_of (R.told reader.new) (W.told writer.new)) served.1)) }
     // Today's version is stored, also in whatever a crash may leave.
     ensures current { IfOk result (λ served. IsCurrent (file_state served.0.conn)) }
-    // `Read` and `Write` are told only if a call of that end failed, or the writer took no byte.
+    // The outcome is `Read` or `Write` only if a call of that end failed, or the writer took no
+    // byte.
     ensures fault { IfOk result (λ served. TellsFault
         (ends_of (R.told reader.old) (W.told writer.old))
         (ends_of (R.told reader.new) (W.told writer.new)) served.1) }
@@ -89,8 +90,8 @@ fn serve_over<S: Alter, R: Source, W: Sink>(
 ) -> (Office<SqlShelf<S>>, Result<Served, ServeFault>)
     ensures clean { HasCleanDisk (state S.Store result.0.conn)
         → HasCleanDisk (state S.Store office.conn) }
-    // On a clean disk, of an office that was just opened over files and wrote no row yet: the
-    // answers are those of the office machine, from the sound office for which its tables stood.
+    // On a clean disk, for an office that was just opened over files and wrote no row yet: the
+    // answers are those of the office machine, from the sound office that its tables stood for.
     ensures did { HasCleanDisk (state S.Store result.0.conn) →
         (image : Image) → AreOpenedIn (state S.Store) image office → (before : OfficeState) →
         StandForSound (content_now (state S.Store office.conn)) before → (after : OfficeState)

@@ -12,11 +12,11 @@ use std::fs::File;
 pub trait OfficeTask<Outcome> {
     ghost use Rattle.signal_office_file.specs.Task.{DoesTask, Effect};
 
-    // What the task, which was the first and is the second one now, did to the tables of an office,
-    // and what a stop may leave of them.
+    // What the task did to the tables of an office, by the task before and after it, and what a
+    // stop may leave of them.
     ghost effect: { Self → Self → Effect Outcome };
 
-    /// Does the task by an office, and gives what came of it, or the fault that ended it. What the
+    /// Does the task with an office, and gives its outcome, or the fault that ended it. What the
     /// task writes goes to `out`.
     fn done_with<S: Shelf, W: Sink>(
         &mut self,
@@ -28,19 +28,20 @@ pub trait OfficeTask<Outcome> {
         ensures { DoesTask S.Shelf office.old office.new (effect self.old self.new) result };
 }
 
-/// What a task does beside its turns with an office, in each of which it is done in part. Between
-/// two turns the file of the office is closed, and another run may have it.
+/// A task that is done in turns with an office, a part in each. Between two turns the file of the
+/// office is closed, and another run may open it.
 pub trait TakesTurns {
-    /// Begins a turn, just before the file of the office is opened. A run that wants the file from
-    /// now on has a lock on this turn file; without one, nobody can be seen to want it.
+    /// Begins a turn, when the files of the office are open and its database is not yet. A run that
+    /// wants the files from now on has a lock on this turn file; without one, no such run can be
+    /// seen.
     fn begin_turn(&mut self, turn_file: Option<File>);
 
-    /// Whether nothing is left to be done.
+    /// Whether the task is done.
     fn is_done(&self) -> bool;
 
     /// Waits until there is something to do for which the file is needed.
     fn await_work(&mut self);
 
-    /// Answers whoever asks now that the office is not to be had, and waits for nobody else.
+    /// Answers whoever asks now that the office is unavailable, and waits for nobody else.
     fn answer_unavailable(&mut self, alloc: Global);
 }

@@ -1,7 +1,7 @@
 //! The turn file beside the file of an office. A run that wants the office locks the turn file,
-//! waits until the office is free, opens it, and lets the turn go. So the runs that wait get the
-//! office one by one, and the run that has it can see that another one waits. The system lets a
-//! lock go when its process ends.
+//! waits until the office is free, opens it, and gives up the turn. So the runs that wait get the
+//! office one by one, and the run that has it can see that another one waits. The system releases a
+//! lock when its process ends.
 
 use std::fs::{self, File, Metadata, OpenOptions, Permissions, TryLockError};
 use std::io::{self, ErrorKind};
@@ -11,7 +11,7 @@ use std::os::unix::fs::{MetadataExt, OpenOptionsExt, PermissionsExt, fchown};
 const MODE: u32 = 0o644;
 
 /// Makes an empty turn file, with the mode, owner and group of the file of the office, if there is
-/// one, as far as the system grants them. The error is `AlreadyExists` where something is there.
+/// one, as far as the system grants them. The error is `AlreadyExists` if something is there.
 fn make_file(rt: &HostRuntime, path: &str, office: Option<Metadata>) -> io::Result<()> {
     let mode = match &office {
         Some(found) => found.mode() & 0o777,
@@ -40,7 +40,8 @@ fn open_or_make(rt: &HostRuntime, path: &str, office: Option<Metadata>) -> io::R
     }
 }
 
-/// The turn file of the file at a path, beside the place where a link leads.
+/// The turn file of the file at a path. If the path is a link, it is beside the file that the link
+/// leads to.
 fn turn_file_at(rt: &HostRuntime, path: &str) -> io::Result<File> {
     let real = match fs::canonicalize(rt, path) {
         Ok(real) => real,
@@ -74,7 +75,7 @@ impl Turn {
         }
     }
 
-    /// Tries to have the turn, and says whether another run has it.
+    /// Tries to take the turn, and says whether another run has it.
     pub(crate) fn is_taken(&self) -> bool {
         match &self.file {
             Some(file) => matches!(file.try_lock(), Err(TryLockError::WouldBlock)),
@@ -82,7 +83,7 @@ impl Turn {
         }
     }
 
-    /// Lets the turn go.
+    /// Gives up the turn.
     pub(crate) fn let_go(&self) {
         if let Some(file) = &self.file {
             let _ = file.unlock();

@@ -1,5 +1,5 @@
 //! A task that is done in turns over the office in the file at a path: between two turns the file
-//! is closed, and other runs may have it. No clause ties a path to what its file holds.
+//! is closed, and other runs may open it. No clause ties a path to what its file holds.
 
 use crate::ended::Ended;
 use crate::notes::note_away;
@@ -13,7 +13,7 @@ use std::alloc::Global;
 use std::time::Duration;
 use std::{fs, thread};
 
-/// How many seconds longer than a command a server waits for a file that it has had.
+/// How many seconds longer than a command a server waits for a file that it had open before.
 const MINUTE: u32 = 60;
 
 /// What came before a turn.
@@ -23,11 +23,11 @@ enum Before {
     Nothing,
     /// Another turn.
     Turn,
-    /// A refusal of the file, which was had before.
+    /// A turn for which the file was refused, after one that had it.
     Refusal,
 }
 
-/// How long a task that is given so many seconds waits for a turn, and what it says of that.
+/// How long a task with `wait` seconds waits for a turn, and which notes it writes.
 fn patience_of(before: Before, wait: u32) -> Patience {
     match before {
         Before::Nothing => Patience::of_seconds(wait, Notes::All),
@@ -36,7 +36,7 @@ fn patience_of(before: Before, wait: u32) -> Patience {
     }
 }
 
-/// Whether a path leads to a file that has a byte; no where the system does not tell.
+/// Whether a path leads to a file that is not empty; false where the system does not say.
 fn has_bytes(rt: &HostRuntime, path: &str) -> bool {
     match fs::metadata(rt, path) {
         Ok(found) => found.len() > 0,
@@ -44,14 +44,14 @@ fn has_bytes(rt: &HostRuntime, path: &str) -> bool {
     }
 }
 
-/// Whether the files of an office were made just now: neither has a byte.
+/// Whether the files of an office were made just now: both are empty.
 fn are_new(rt: &HostRuntime, alloc: Global, path: &str) -> Result<bool, Fault> {
     let log = format!(in alloc; "{path}-wal")?;
     Ok(!has_bytes(rt, path) && !has_bytes(rt, log.as_str()))
 }
 
-/// The files of the office at a path, in the next turn. An office that was there before is not made
-/// anew: the fault is `File` where it is not there, also if it vanishes while its turn is awaited.
+/// The files of the office at a path, for the next turn. Only the first turn may make them: later
+/// the fault is `File` if they are missing, also if they vanish while the task waits for its turn.
 fn files_again(
     rt: &HostRuntime,
     alloc: Global,
@@ -79,20 +79,20 @@ enum TurnEnd<T> {
     Last(Result<T, Fault>),
     /// The task goes on in another one.
     GoesOn,
-    /// There was none, as the file was not to be had.
+    /// There was no turn, since the file was refused.
     Refused(Fault),
 }
 
-/// Says what a file holds that was refused with `Store`, unless that was said before, or the system
-/// refused a call of it. Reading it may give up its lock, which no write needs any more.
+/// Says what a file holds, if it was refused with `Store`, unless that was said before or the
+/// system refused a call on it. Reading it may release its lock, which no write needs any more.
 fn note_refused(notes: &CallNotes<'_>, fault: &Fault, before: Before) {
     if before != Before::Refusal && matches!(fault, Fault::Store) {
         notes.say_content();
     }
 }
 
-/// Does a task for one turn over the tables of the file at a path, and closes the file. What holds
-/// the lock of the file is let go here in every outcome, so that another run may have it.
+/// Does a task for one turn over the tables of the file at a path, and closes the file. The lock on
+/// the file is released here in every case, so that another run may open it.
 fn take_turn<Outcome: Drop, T: OfficeTask<Outcome> + TakesTurns, W: Sink>(
     rt: &HostRuntime,
     alloc: Global,
@@ -120,7 +120,7 @@ fn take_turn<Outcome: Drop, T: OfficeTask<Outcome> + TakesTurns, W: Sink>(
     }
 }
 
-/// What becomes of a turn whose file was closed: the last one gives what the task did.
+/// How a turn ended whose file was closed: it was the last if the task is done or failed.
 fn after_closing<T: Drop>(done: Result<T, Fault>, is_done: bool) -> TurnEnd<T> {
     if done.is_ok() && !is_done {
         return TurnEnd::GoesOn;
@@ -128,8 +128,8 @@ fn after_closing<T: Drop>(done: Result<T, Fault>, is_done: bool) -> TurnEnd<T> {
     TurnEnd::Last(done)
 }
 
-/// What becomes of a turn whose file could not be closed, as its disk failed: the file is opened
-/// anew, unless the task is done, or ended by another fault.
+/// How a turn ended whose file could not be closed: the task goes on with the file opened anew,
+/// unless it is done or the fault is neither `Store` nor `Memory`.
 fn after_failure<T>(fault: Fault, is_done: bool) -> TurnEnd<T> {
     if !is_done && matches!(fault, Fault::Store | Fault::Memory) {
         return TurnEnd::GoesOn;
@@ -137,8 +137,8 @@ fn after_failure<T>(fault: Fault, is_done: bool) -> TurnEnd<T> {
     TurnEnd::Last(Err(fault))
 }
 
-/// Has a task whose file was refused answer so, and wait a second; why it was refused is said when
-/// that begins. Says whether the task is to go on.
+/// Has a task whose file was refused answer that the office is unavailable, and waits a second. The
+/// first time, a note says why. Gives whether the task is to go on.
 fn stays<T: TakesTurns>(
     rt: &HostRuntime,
     alloc: Global,
@@ -158,14 +158,14 @@ fn stays<T: TakesTurns>(
     true
 }
 
-/// Does a task in turns over the tables of the file at `path`, which are made before the first turn
-/// where there are none. In each turn the file is opened, and closed again; the task waits without
-/// it, and then for its turn. The first turn is waited for up to `wait` seconds, later ones a
-/// minute longer. When the file can't be had for one, as it was removed, has another version or is
-/// kept by another run, a note says so, the task answers that the office is unavailable, and the
-/// file is tried again each second. A database that failed is let go and opened again in the next
-/// turn. The fault is that of the task, of the first turn's file, or of a file that was not closed
-/// at the end.
+/// Does a task in turns over the tables of the file at `path`, which are made in the first turn if
+/// there are none. Each turn opens the file and closes it; between turns the task waits for work
+/// without the file, and then for its turn: for the first one up to `wait` seconds, for later ones
+/// a minute longer. If the file is refused for a later turn, since it was removed, has another
+/// version or another run keeps it, a note says so, the task answers that the office is
+/// unavailable, and the file is tried again each second. A database that failed is dropped and
+/// opened again in the next turn. The fault is that of the task, of the first turn's file, or of a
+/// file that was refused or not closed at the end.
 pub fn do_in_turns<Outcome: Drop, T: OfficeTask<Outcome> + TakesTurns, W: Sink>(
     rt: &HostRuntime,
     alloc: Global,

@@ -1,5 +1,5 @@
-//! The two files of an office at a path, opened when it is this run's turn and, within the seconds
-//! of a call, as soon as no other run has them open.
+//! Opens the two files of an office at a path, once it is this run's turn and no other run has them
+//! open. It waits for both, up to the seconds of the caller.
 
 ghost use Rattle.std.specs.Prelude.{◌≡◌, ◌<◌, ◌↔◌, IfErr, IsTrue, IsFalse};
 
@@ -24,10 +24,10 @@ const PAUSE: u64 = 2;
 /// How many microseconds a second has.
 const SECOND: u128 = 1_000_000;
 
-/// Which notes are said of files that are not had at once.
+/// Which notes are written on files that can't be opened at once.
 #[derive(Clone, Copy, PartialEq)]
 pub(crate) enum Notes {
-    /// After a second, that another run is waited for; and why the files are refused.
+    /// After a second, that this run waits for another; and why the files are refused.
     All,
     /// Why the files are refused.
     Refusal,
@@ -53,7 +53,7 @@ impl Patience {
         }
     }
 
-    /// Whether it was said that another run is waited for.
+    /// Whether a note has said that this run waits for another.
     fn was_told(&self) -> bool {
         self.notes == Notes::All && self.waited >= SECOND
     }
@@ -64,7 +64,7 @@ fn passed_since(rt: &HostRuntime, then: io::Result<Instant>) -> io::Result<u128>
     Ok(then?.elapsed(rt)?.as_micros())
 }
 
-/// Waits a moment for another run. When that was waited for over a second, a note says so once.
+/// Waits a moment for another run. When a second of waiting is over, a note says so, once.
 fn wait_a_moment(rt: &HostRuntime, path: &str, patience: &mut Patience)
     ensures { 0 < patience.old.left → patience.new.left < patience.old.left }
 {
@@ -82,7 +82,7 @@ fn wait_a_moment(rt: &HostRuntime, path: &str, patience: &mut Patience)
     }
 }
 
-/// Waits until it is this run's turn, as long as time is left, and says whether it is.
+/// Waits until it is this run's turn, as long as time is left, and gives whether it is.
 fn await_turn(rt: &HostRuntime, path: &str, turn: &Turn, patience: &mut Patience) -> bool
     ensures { IsFalse result → patience.new.left ≡ 0 }
 {
@@ -95,7 +95,7 @@ fn await_turn(rt: &HostRuntime, path: &str, turn: &Turn, patience: &mut Patience
     true
 }
 
-/// Whether files are tried again: those that another run has open, as long as time is left.
+/// Whether to try again to open files: if another run has them open, and time is left.
 fn tries_again(error: &OpenError, left: u128) -> bool
     ensures { IsTrue result ↔ ((error.now ≡ OpenError.Busy) × (0 < left)) }
 {
@@ -105,14 +105,14 @@ fn tries_again(error: &OpenError, left: u128) -> bool
     }
 }
 
-/// The two files at a path, which are made where they are missing. If another run has them open,
-/// they are tried again, as long as time is left.
+/// The two files at a path, which are made where they are missing. While another run has them open,
+/// this run tries again, as long as time is left.
 fn open_when_free(
     rt: &HostRuntime,
     path: &str,
     patience: &mut Patience,
 ) -> Result<FilesAtPath, OpenError>
-    // Another run is given up only when no time is left.
+    // The error is Busy only when no time is left.
     ensures waited { IfErr result (λ why. why ≡ OpenError.Busy → patience.new.left ≡ 0) }
 {
     loop {
@@ -127,7 +127,7 @@ fn open_when_free(
     }
 }
 
-/// The two files at a path, in this run's turn, which is let go then.
+/// Opens the two files at a path in this run's turn, and then gives up the turn.
 fn open_in_turn(
     rt: &HostRuntime,
     path: &str,
@@ -154,19 +154,19 @@ fn fault_of_refusal(error: &OpenError) -> Fault {
     }
 }
 
-/// How the database in files is kept: with a random number for the salts of its log.
+/// The options of the database: a random number for the salts of its log.
 fn options(rt: &HostRuntime) -> io::Result<Options> {
     Ok(Options::new(RandomState::new(rt)?.hash_one(&0u8)))
 }
 
-/// Files that were opened at a path, how their database is kept, and the turn in which they were
-/// opened, which was let go.
+/// Files that were opened at a path, the options of their database, and the turn in which they were
+/// opened, which was given up.
 pub(crate) type OpenedInTurn = (FilesAtPath, Options, Turn);
 
 /// The two files at a path, which are made where they are missing. While it is the turn of another
-/// run, or one has them open, this run waits, as long as its patience. The fault is `Memory` if
-/// memory was refused, else `Store`, as where SQLite takes the path for no name of a file, or the
-/// system gives no random number.
+/// run, or one has them open, this run waits, up to its patience. The fault is `Memory` if memory
+/// was refused, else `Store`, also where SQLite does not take the path as the name of a file, or
+/// the system gives no random number.
 pub(crate) fn files_in_turn(
     rt: &HostRuntime,
     path: &str,
@@ -196,8 +196,8 @@ pub(crate) fn files_in_turn(
     }
 }
 
-/// The two files at a path, for a run that waits for up to `wait` seconds, as `files_in_turn` has
-/// them.
+/// The two files at a path, which are made where they are missing, for a run that waits for up to
+/// `wait` seconds. The faults are those of `files_in_turn`.
 pub(crate) fn files_at(
     rt: &HostRuntime,
     path: &str,

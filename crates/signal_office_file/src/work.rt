@@ -42,7 +42,7 @@ pub fn done_in<D: Disk + Drop, Outcome: Drop, T: OfficeTask<Outcome>, W: Sink>(
 
 /// Answers at most `max_requests` requests of the source over the tables in the two files, which
 /// are made where there are none, and closes the files. A change that was answered, and not by 503,
-/// stands in the files before they are closed.
+/// is in the files before they are closed.
 pub fn answered_in<D: Disk + Drop, R: Source, W: Sink>(
     alloc: Global,
     files: Files<D>,

@@ -23,7 +23,7 @@ use Rattle.signal_office_line.specs.declared.shows.View.TheVariants as view
 
 -- ---- requests of the office of a file
 
--- what `stock` shows: the stock, or the part that is named
+-- what `stock` shows: the whole stock, or the named part
 abbrev pub stock_or_part : Option Text → List Row → Shown
 stock_or_part None rows = shown.Stock (list_form_at rows)
 stock_or_part (Some part) rows = shown.Part part
@@ -110,7 +110,7 @@ edit_at rows = do
     advise = flag_at (codes "advise") rows;
   }))
 
--- what stands under the name of a command
+-- what a list has under the name of a command
 abbrev pub under : {A : Type 0} → Text → List (Text × A) → Option A
 under name among = option_map (λ c. c.1) (find (λ c. bytes_eq name c.0) among)
 
@@ -133,12 +133,11 @@ requests =
     ∷ (codes "add", add_at) ∷ (codes "import", import_at)
     ∷ (codes "export", export_at) ∷ (codes "pages", pages_at) ∷ (codes "edit", edit_at) ∷ []
 
--- what the command of a name asks of the office of a file; a name of no such command states nothing
+-- what the named command asks of the office of a file; another name states nothing
 unfoldable pub request_at : Text → List Row → Stated Request
 request_at name rows = option_map_or (λ what. what rows) (under name requests) (Err Unstated)
 
--- the job to do a request in the office of the file that `--db` gives; what the file lacks is told
--- before what the request lacks
+-- the job to do a request in the office of the file that `--db` gives; a missing file is reported before a missing request
 abbrev pub office_of : Stated Request → List Row → Stated Job
 office_of asked rows = do
   db ← db_at rows
@@ -198,7 +197,7 @@ compare_at rows = do
   db ← any_db_at rows
   compare_of db rows
 
--- `diagram --db FILE ID PATTERN`, or `diagram --file CSV [--padded] PATTERN`, a pattern from 1 to 48, which with `--file` stands in the
+-- `diagram --db FILE ID PATTERN`, or `diagram --file CSV [--padded] PATTERN`, a pattern from 1 to 48, which with `--file` is in the
 -- argument ID
 abbrev pub diagram_of : Option CsvFile → List Row → Stated Job
 diagram_of (Some file) rows = do
@@ -235,7 +234,7 @@ jobs =
     ∷ (codes "verify-file", verify_file_at) ∷ (codes "sheet", sheet_at) ∷ (codes "overdue", overdue_at)
     ∷ (codes "serve", serve_at) ∷ (codes "compare", compare_at) ∷ (codes "diagram", diagram_at) ∷ (codes "page", page_at) ∷ []
 
--- the job that the command of a name states by its values, or why they state none; a name that is
--- not among `jobs` is one of `requests`, or states nothing
+-- the job that the named command states by its values, or why they state none; a name that is not among `jobs` is one of `requests`, or
+-- states nothing
 abbrev pub job_at : Text → List Row → Stated Job
 job_at name rows = option_map_or (λ what. what rows) (under name jobs) (office_of (request_at name rows) rows)

@@ -27,7 +27,7 @@ pub record IsAnswer (app : App) (words : List Text) (answer : Result ArgMatches 
   pub kinds : is_simple_and_free app ≡ true → FailsBy (fault_of app words) answer
   pub passes : IfErr answer (λ error. takes app words ≡ true → kind_of error ≡ kind.OutOfMemory)
 
--- an error of `clap` is reported as the refusal, or the help, that it is, but out of memory as NoMemory
+-- an error of `clap` is reported as the refusal or help that it is, but OutOfMemory as NoMemory
 abbrev pub IsToldAs : Error → JobFault → Type 0
 IsToldAs error told =
     ((kind_of error ≡ kind.OutOfMemory) × (told ≡ fault.NoMemory))
@@ -38,8 +38,8 @@ abbrev pub IsFaultOf : Result Error AllocError → JobFault → Type 0
 IsFaultOf (Ok error) told = IsToldAs error told
 IsFaultOf (Err no_memory) told = told ≡ fault.NoMemory
 
--- the job that a command and its values state is found; for a bad word it is to report that one; values that
--- state nothing are refused as such, or memory for that refusal ran out
+-- what is found is the job that a command and its values state; for a bad word, the job that reports it; for values that state nothing, their refusal, or
+-- NoMemory
 abbrev pub IsJobFound : Stated Job → Result Job JobFault → Type 0
 IsJobFound (Ok stated) (Ok found) = found ≡ stated
 IsJobFound (Err (Bad bad)) (Ok found) = found ≡ job.ReportBadWord bad
@@ -47,7 +47,7 @@ IsJobFound (Err Unstated) (Err (fault.Refused error)) = kind_of error ≡ kind.V
 IsJobFound (Err Unstated) (Err fault.NoMemory) = ⊤
 IsJobFound _ _ = ⊥
 
--- what is reported by what `clap` answered to the words of a command: what the values that it found state, or its error
+-- what is found by the answer of `clap` to the words of a command: what the values that it found state, or its error
 abbrev pub IsJudged : Text → Result ArgMatches Error → Result Job JobFault → Type 0
 IsJudged name (Ok matches) result = IsJobFound (job_at name (rows_of (found_of matches))) result
 IsJudged name (Err error) (Err told) = IsToldAs error told
@@ -59,7 +59,7 @@ IsFound (Some named) result = (answer : Result ArgMatches Error) × IsAnswer (ap
 IsFound None (Err told) = ⊤
 IsFound None (Ok found) = ⊥
 
--- WHAT IS FOUND IN WORDS: the first behind the program's name is that of a command, and `clap` finds the values of its arguments in the others. The job is the
--- one that this command and these values state. There is none where `clap` refuses the words, or where they name no command.
+-- WHAT IS FOUND IN WORDS: the first after the program's name names a command, and `clap` finds the values of its arguments in the others. The job is the one
+-- that this command and these values state. There is none where `clap` refuses the words, or where they name no command.
 abbrev pub IsFoundInWords : List Text → Result Job JobFault → Type 0
 IsFoundInWords words result = IsFound (named_in words) result

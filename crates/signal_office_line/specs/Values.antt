@@ -21,12 +21,12 @@ abbrev pub Stated : Type 0 → Type 0
 Stated A = Result A NoJob
 
 infixl 10 ◌>>=◌
--- what the next step states of a value that is stated; a reason why nothing is stated stays
+-- what the next step states by a stated value; the reason why nothing is stated stays
 abbrev pub ◌>>=◌ : {A B : Type 0} → Stated A → (A → Stated B) → Stated B
 Ok given >>= next = next given
 Err why >>= next = Err why
 
--- a value that has to be there: without one nothing is stated
+-- a required value: without one nothing is stated
 abbrev pub needed : {A : Type 0} → Option A → Stated A
 needed given = ok_or given Unstated
 
@@ -37,7 +37,7 @@ needed given = ok_or given Unstated
 abbrev pub number_of : (least most : ℕ) → Text → Option ℕ
 number_of least most word = if is_unsigned_in least most word then Some (digits_value 10 (without_leading_plus word)) else None
 
--- the number of a word that may be left out; any other word than one of the range states nothing
+-- the number of a word that may be left out; a word that spells no number of the range states nothing
 abbrev pub choice_of : (least most : ℕ) → Option Text → Stated (Option ℕ)
 choice_of least most None = Ok None
 choice_of least most (Some word) = do
@@ -48,7 +48,7 @@ choice_of least most (Some word) = do
 abbrev pub choice_at : (least most : ℕ) → Text → List Row → Stated (Option ℕ)
 choice_at least most id rows = choice_of least most (first_of id rows)
 
--- the number from least to most that an argument's word spells, which has to be there
+-- the number from least to most that the word of a required argument spells
 abbrev pub number_within : (least most : ℕ) → Text → List Row → Stated ℕ
 number_within least most id rows = do
   number ← choice_at least most id rows
@@ -60,12 +60,11 @@ flag_at id rows = option_map_or (λ word. bytes_eq word (codes "true")) (first_o
 
 -- ---- words
 
--- an argument's word, which has to be there
+-- the word of a required argument
 abbrev pub word_at : Text → List Row → Stated Text
 word_at id rows = needed (first_of id rows)
 
--- the name of at most so many bytes that an argument's word is, which has to be there; any other
--- word is refused as the given bad word
+-- the word of a required argument as a name of at most so many bytes; any other word is refused as the given bad word
 abbrev pub name_at : BadWord → (most : ℕ) → Text → List Row → Stated Text
 name_at bad most id rows = do
   word ← word_at id rows
@@ -78,14 +77,13 @@ any_of bad value_of (Some word) = do
   value ← ok_or (value_of word) (Bad bad)
   Ok (Some value)
 
--- the day that an argument's word spells as YYYY-MM-DD, which has to be there; any other word is
--- refused as a bad day
+-- the day that the word of a required argument spells as YYYY-MM-DD; any other word is refused as a bad day
 abbrev pub day_at : Text → List Row → Stated ℕ
 day_at id rows = do
   day ← any_of wrong.Day day_of (first_of id rows)
   needed day
 
--- `--from DAY --to DAY`: two days, which have to be there
+-- `--from DAY --to DAY`: two days, both required
 abbrev pub between_at : List Row → Stated Between
 between_at rows = do
   from ← day_at (codes "from") rows
@@ -111,13 +109,12 @@ list_form_of csv headings = if csv then (if headings then form.HeadedCsv else fo
 abbrev pub list_form_at : List Row → ListForm
 list_form_at rows = list_form_of (flag_at (codes "csv") rows) (flag_at (codes "headings") rows)
 
--- the CSV file of an argument, if it is given, whether its records are padded: `--padded`, and whether each bad one is explained:
--- `--explain`
+-- the CSV file of an argument, if it is given, with `--padded`: its records may be padded, and `--explain`: each bad one is explained
 abbrev pub csv_at : Text → List Row → Option CsvFile
 csv_at id rows = option_map (λ path. record { path = path; padded = flag_at (codes "padded") rows; explain = flag_at (codes "explain") rows }) (first_of id rows)
 
--- `[--db FILE [--wait SECONDS]]`: the file of an office, if one is given, and for how many seconds, 0 to 3600, a run waits for another
--- one that has the file open: ten where no number is given
+-- `[--db FILE [--wait SECONDS]]`: the file of an office, if one is given, and for how many seconds, 0 to 3600, a run waits while
+-- another one has it open: ten if no number is given
 abbrev pub any_db_of : Option Text → List Row → Stated (Option OfficeFile)
 any_db_of None rows = Ok None
 any_db_of (Some path) rows = do
@@ -128,7 +125,7 @@ any_db_of (Some path) rows = do
 abbrev pub any_db_at : List Row → Stated (Option OfficeFile)
 any_db_at rows = any_db_of (first_of (codes "db") rows) rows
 
--- the file of an office that `--db` gives, which has to be there
+-- the file of an office that `--db` gives, which is required
 abbrev pub db_at : List Row → Stated OfficeFile
 db_at rows = do
   db ← any_db_at rows

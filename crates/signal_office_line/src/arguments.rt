@@ -1,4 +1,4 @@
-//! The arguments that commands take, and how `clap` is told of them.
+//! The arguments that commands take, and what they are in `clap`.
 
 ghost use Rattle.std.specs.Prelude.{◌≡◌, IfOk, [], false};
 ghost use Rattle.clap.specs.Walk.{rule_of};
@@ -33,14 +33,14 @@ pub(crate) enum Given {
     With(&'static str),
     /// Not with the argument of this name.
     Without(&'static str),
-    /// Always, but where the argument of this name is given it may be left out.
+    /// Always, unless the argument of this name is given: then it may be left out.
     Unless(&'static str),
     /// Either this or the argument of this name, not both.
     InsteadOf(&'static str),
 }
 
-/// An argument of a command: its name, how it is written, the range of its number, if it is to be
-/// one, and whether it has to be given.
+/// An argument of a command: its name, how it is written, the range of its number, if it has one,
+/// and whether it has to be given.
 #[derive(Clone, Copy)]
 pub(crate) struct Argument(pub &'static str, pub Form, pub Option<Range>, pub Given);
 
@@ -60,7 +60,7 @@ fn in_form<'a>(arg: Arg<'a>, name: &'a str, form: Form) -> Arg<'a>
     }
 }
 
-/// The argument, whose word is a number of a range, if one is given.
+/// The argument; if a range is given, its word must be a number of that range.
 fn in_range<'a>(arg: Arg<'a>, range: Option<Range>) -> Arg<'a>
     ensures rule { rule_of result ≡ in_range range (rule_of arg.entry) }
     ensures local { result.global ≡ arg.entry.global }
@@ -71,7 +71,7 @@ fn in_range<'a>(arg: Arg<'a>, range: Option<Range>) -> Arg<'a>
     arg.value_parser(ValueParser::unsigned(u64::from(least), u64::from(most)))
 }
 
-/// The argument, as it has to be given; or memory for that was refused.
+/// The argument, with the condition under which it has to be given.
 fn given_as<'a>(arg: Arg<'a>, given: Given) -> Result<Arg<'a>, AllocError>
     ensures { IfOk result (λ tied. (rule_of tied ≡ given_as given (rule_of arg.entry))
         × (tied.global ≡ arg.entry.global)) }
@@ -86,7 +86,7 @@ fn given_as<'a>(arg: Arg<'a>, given: Given) -> Result<Arg<'a>, AllocError>
     }
 }
 
-/// An argument of a command as `clap` takes it, with its help if `helped`; or memory was refused.
+/// An argument of a command as `clap` takes it, with its help if `helped`.
 fn arg_of<'a>(
     alloc: Global,
     command: &str,
@@ -101,7 +101,7 @@ fn arg_of<'a>(
     given_as(in_range(in_form(arg, name, form), range), given)
 }
 
-/// A command without arguments as `clap` takes it, with its help if `helped`; or memory was refused.
+/// A command without arguments as `clap` takes it, with its help if `helped`.
 fn bare_command<'a>(
     alloc: Global,
     name: &'static str,
@@ -119,8 +119,7 @@ fn bare_command<'a>(
     command.bin_name(shown.as_str())
 }
 
-/// A command with its arguments as `clap` takes it, with its help if `helped`; or memory was
-/// refused.
+/// A command with its arguments as `clap` takes it, with its help if `helped`.
 pub(crate) fn command_of<'a>(
     alloc: Global,
     usage: &Usage,

@@ -1,4 +1,4 @@
-//! The words that the program takes.
+//! The commands of the program, with their arguments.
 
 ghost use Rattle.std.specs.Prelude.{◌≡◌, find, map, option_map};
 ghost use Rattle.std.specs.Str.{bytes_eq};
@@ -29,7 +29,7 @@ pub(crate) const REVISIONS: Range = Range(0, 999_999);
 /// For how many seconds a file is waited for.
 pub(crate) const WAITS: Range = Range(0, 3_600);
 
-// The arguments of the commands. Those of one name are given differently.
+// The arguments of the commands. Several have one name where commands require it differently.
 const DB: Argument = Argument("db", Form::Choice("FILE"), None, Given::Always);
 
 const ANY_DB: Argument = Argument("db", Form::Choice("FILE"), None, Given::Maybe);
@@ -139,8 +139,8 @@ const PATTERN_OR_FILE: Argument = Argument(
     Given::InsteadOf("file"),
 );
 
-/// The commands with their arguments, in the order of the help. What the help says of them stands
-/// in `help.rt`.
+/// The commands with their arguments, in the order of the help. What the help says of them is in
+/// `help.rt`.
 const COMMANDS: &[Usage] = &[
     Usage("batch", &[ANY_DB, ANY_WAIT]),
     Usage("serve", &[PORT, COUNT, ANY_DB, ANY_WAIT]),
@@ -193,15 +193,15 @@ const COMMANDS: &[Usage] = &[
     Usage("page", &[DB_OR_FILE, WAIT_FOR_DB, FILE, PADDED, ID_OR_FILE]),
 ];
 
-/// The commands with their arguments. Only this function names the table, since a proof pays for it
-/// in each function that does.
+/// The commands with their arguments. Only this function names the table, since each function that
+/// does is slower to prove.
 fn commands() -> &'static [Usage]
     ensures { map usage_as result.now ≡ commands }
 {
     COMMANDS
 }
 
-/// The command of a name with its arguments, if the program has it.
+/// The command of this name, with its arguments, if the program has it.
 fn usage_of(name: &str) -> Option<Usage>
     ensures { option_map usage_as result ≡ find (λ command. bytes_eq command.0 name.now) commands }
 {
@@ -215,8 +215,8 @@ fn usage_of(name: &str) -> Option<Usage>
     None
 }
 
-/// The command that the first word behind the program's name names, and the words from that name
-/// on; `None` where there is no such command.
+/// The command that the first word after the program's name names, and the words from that name on;
+/// `None` if there is no such command.
 pub(crate) fn named_in<'a>(words: &'a [&'a str]) -> Option<(Usage, &'a [&'a str])>
     ensures { option_map (λ found. (usage_as found.0, map (λ word. word.now) found.1.now)) result
         ≡ named_in (map (λ word. word.now) words.entry.now) }
@@ -226,8 +226,8 @@ pub(crate) fn named_in<'a>(words: &'a [&'a str]) -> Option<(Usage, &'a [&'a str]
     Some((usage, words.split_at(1).1))
 }
 
-/// The program with all its commands and their help, as `clap` takes it; or memory was refused.
-/// What it prints for `--version` is the program's own.
+/// The program with all its commands and their help, as `clap` takes it. It has no version, since
+/// the program prints its own for `--version`.
 pub(crate) fn program<'a>(alloc: Global) -> Result<Command<'a>, AllocError> {
     let mut program = Command::new(alloc, "signal_office")
         .about("The office of a city's traffic signals: timing plans, cabinets and stock")

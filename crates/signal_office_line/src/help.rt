@@ -56,7 +56,7 @@ pub(crate) fn ending_of(command: &str) -> &'static str {
 
 /// What the help says of the commands and of their arguments: a line for each,
 /// `COMMAND itself: TEXT` or `COMMAND ARGUMENT: TEXT`. A line `any ARGUMENT: TEXT` is for each
-/// command that has no such line of its own, and stands behind those: the first that fits holds.
+/// command that has no such line of its own, and comes after those: the first that fits holds.
 const HELP: &str = "\
 batch itself: Reads HTTP requests from standard input, at most 1,000,000, and writes the answers \
 to standard output

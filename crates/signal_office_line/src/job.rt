@@ -20,8 +20,8 @@ use clap::{ArgMatches, Error};
 use signal_values::{InterId, Interval};
 use std::alloc::{AllocError, Global};
 
-/// The file of an office, and for how many seconds, 0 to 3600, a run tries again to open this file
-/// where another run has it open.
+/// The file of an office, and for how many seconds, 0 to 3600, a run waits while another one has it
+/// open.
 #[derive(Drop)]
 pub struct OfficeFile<'a> {
     pub path: Path<'a>,
@@ -42,8 +42,8 @@ pub enum Folder {
 /// An edit of an intersection's plan by a CSV file, in the draft of a clerk. Without a file, which
 /// only `commit` without `replace` allows, the draft is taken as it is. `replace` removes the rows
 /// that the file lacks, and `commit` commits a draft that breaks no rule. `revision`, 0 to 999,999,
-/// is the one that has to be committed before. `explain` adds the reasons of broken rules, the
-/// owner of a draft and what a commit changed, and `advise` warnings.
+/// is the committed revision that the edit requires. `explain` adds the reasons of broken rules,
+/// the owner of a draft and what a commit changed, and `advise` warnings.
 #[derive(Drop)]
 pub struct Edit<'a> {
     pub id: InterId,
@@ -118,7 +118,7 @@ pub enum Job<'a> {
         form: ListForm,
     },
     /// Print the rules that the plan in a CSV file breaks, with their reasons if `explain`, and
-    /// behind them what an engineer is warned of in it, if `advise`.
+    /// then its warnings if `advise`.
     VerifyFile {
         csv: CsvFile<'a>,
         explain: bool,
@@ -133,13 +133,13 @@ pub enum Job<'a> {
     Migrate {
         db: OfficeFile<'a>,
     },
-    /// Copy the office of a file into another file; with `force` one that is there is replaced.
+    /// Copy the office of a file into another file; `force` lets it replace an existing one.
     Backup {
         db: OfficeFile<'a>,
         to: Path<'a>,
         force: bool,
     },
-    /// Print what the plans in two CSV files differ in, as a text or as CSV.
+    /// Print the differences between the plans in two CSV files, as a text or as CSV.
     CompareFiles {
         first: CsvFile<'a>,
         second: CsvFile<'a>,
@@ -150,11 +150,11 @@ pub enum Job<'a> {
         csv: CsvFile<'a>,
         shown: PlanShown,
     },
-    /// Report a word that is not what it was to be; the other words would state another job.
+    /// Report a word that is not what the command requires there.
     ReportBadWord(BadWord),
 }
 
-/// What a word of the command line was to be, and is not.
+/// What a word of the command line had to be, and is not.
 #[derive(Clone, Copy)]
 pub enum BadWord {
     /// A day from 1970-01-01 to 2199-12-31, as `YYYY-MM-DD`.
@@ -172,7 +172,7 @@ pub enum BadWord {
 pub(crate) enum NoJob {
     /// The values are too few or too many, do not go together, or a number is out of its range.
     Unstated,
-    /// The values would state a job, but a word is not what it was to be.
+    /// A word is not what it had to be.
     Bad(BadWord),
 }
 
@@ -230,7 +230,7 @@ fn refusal_of(alloc: Global, usage: &Usage) -> Result<Error, AllocError>
     command_of(alloc, usage, false)?.error(ErrorKind::ValueValidation, reason)
 }
 
-/// The fault to report where a refusal was asked for.
+/// The fault that reports a refusal, or that memory for it was refused.
 fn fault_for(refusal: Result<Error, AllocError>) -> JobFault
     ensures { IsFaultOf refusal result }
 {
@@ -240,8 +240,8 @@ fn fault_for(refusal: Result<Error, AllocError>) -> JobFault
     }
 }
 
-/// The job that the values of a command state, to report a bad word among them included, or the
-/// fault to report of values that state none.
+/// The job that the values of a command state, or the one that reports a bad word among them; or
+/// the fault of values that state none.
 fn job_in<'a>(alloc: Global, usage: &Usage, matches: &ArgMatches<'a>) -> Result<Job<'a>, JobFault>
     ensures { IsJobFound (job_at usage.now.0.now (rows_of (found_of matches.now))) result }
 {
@@ -266,7 +266,7 @@ fn judged<'a>(
     }
 }
 
-/// The help or the version that words ask for which name no command first, or their refusal.
+/// The help or the version, or the refusal, for words that do not begin with a command.
 fn help_for<'a>(alloc: Global, words: &'a [&'a str]) -> Result<Error, AllocError> {
     let mut program = program(alloc)?;
     match program.try_get_matches_from_mut(words) {
@@ -275,8 +275,8 @@ fn help_for<'a>(alloc: Global, words: &'a [&'a str]) -> Result<Error, AllocError
     }
 }
 
-/// What the words ask for, the first being the program's name: a job; or the refusal, or the help,
-/// of words that state no job; or that memory ran out.
+/// What the words ask for; the first is the program's name. It is a job, or the refusal, help or
+/// version for words that state none.
 #[tactic(auto, using(crate::proofs::FoundLemmas::none_found))]
 pub fn job_of<'a>(alloc: Global, words: &'a [&'a str]) -> Result<Job<'a>, JobFault>
     ensures { IsFoundInWords (map (λ word. word.now) words.entry.now) result }

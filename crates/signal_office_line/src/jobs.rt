@@ -160,8 +160,8 @@ fn edit<'a>(matches: &ArgMatches<'a>) -> Result<Request<'a>, NoJob>
     }))
 }
 
-/// What the command of a name asks of the office of a file, or why its values, or another name,
-/// state nothing.
+/// What the named command asks of the office of a file; or why it asks nothing, by its values or
+/// since it is another command.
 #[tactic(auto, unfolding(crate::specs::Job::request_at))]
 fn request_at<'a>(command: &str, matches: &ArgMatches<'a>) -> Result<Request<'a>, NoJob>
     ensures { result ≡ request_at command.now (rows_of (found_of matches.now)) }
@@ -192,8 +192,8 @@ fn request_at<'a>(command: &str, matches: &ArgMatches<'a>) -> Result<Request<'a>
     Ok(Request::Show(shown))
 }
 
-/// The job to do a request in the office of the file of `--db`; or why no file is stated, or else
-/// no request.
+/// The job to do a request in the office of `--db`; or why no file is stated or, tested second, no
+/// request.
 fn office<'a>(matches: &ArgMatches<'a>, asked: Result<Request<'a>, NoJob>) -> Result<Job<'a>, NoJob>
     ensures { result ≡ office_of asked.entry (rows_of (found_of matches.now)) }
 {
@@ -234,7 +234,7 @@ fn compare<'a>(matches: &ArgMatches<'a>) -> Result<Job<'a>, NoJob>
     Ok(Job::Office { db, request })
 }
 
-/// The number of a pattern, 1 to 48, in an argument; `Unstated` says that there is none.
+/// The number of a pattern, 1 to 48, in an argument; `Unstated` if it is missing or no such number.
 fn pattern(matches: &ArgMatches<'_>, id: &str) -> Result<PatternNo, NoJob>
     ensures { result ≡ number_within 1 48 id.now (rows_of (found_of matches.now)) }
 {
@@ -274,7 +274,7 @@ fn page<'a>(matches: &ArgMatches<'a>) -> Result<Job<'a>, NoJob>
     Ok(Job::Office { db, request })
 }
 
-/// The job that the command of a name states by its values, or why they state none.
+/// The job that the named command states by its values, or why they state none.
 pub(crate) fn job_at<'a>(command: &str, matches: &ArgMatches<'a>) -> Result<Job<'a>, NoJob>
     ensures { result ≡ job_at command.now (rows_of (found_of matches.now)) }
 {

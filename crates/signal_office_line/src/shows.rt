@@ -1,4 +1,4 @@
-//! What commands show, of an office or of a plan in a CSV file.
+//! What commands show of an office, or of a plan in a CSV file.
 
 use crate::words::{Part, Path};
 use cabinet_core::Day;
@@ -16,15 +16,15 @@ pub struct CsvFile<'a> {
 /// How a list is printed.
 #[derive(Clone, Copy)]
 pub enum ListForm {
-    /// Lines of columns below their heading, and how many they are.
+    /// Lines of columns under a heading, and then their number.
     Lines,
     /// CSV.
     Csv,
-    /// CSV, whose first record has the names of its fields.
+    /// CSV; its first record has the names of the fields.
     HeadedCsv,
 }
 
-/// The days from one on to another, both included; none where the first is later.
+/// The days from one to another, both included; none if `from` is later than `to`.
 #[derive(Clone, Copy)]
 pub struct Between {
     pub from: Day,
@@ -75,8 +75,8 @@ pub enum Shown<'a> {
         by_age: Option<Day>,
         form: ListForm,
     },
-    /// What was used of all parts, or of one; with days, on these: a used part has the day on which
-    /// its order was closed, or was opened, if it is open.
+    /// What was used of all parts, or of one; with days, only on these. A used part has the day on
+    /// which its order was closed or, if that is open, was opened.
     Used {
         part: Option<Part<'a>>,
         between: Option<Between>,
@@ -91,7 +91,7 @@ pub enum Shown<'a> {
     Cabinet {
         id: InterId,
     },
-    /// What is kept of an intersection, as CSV.
+    /// The committed timing set, the draft or the cabinet of an intersection, as CSV.
     Export {
         id: InterId,
         view: View,
@@ -106,14 +106,14 @@ pub enum Shown<'a> {
         id: InterId,
         csv: bool,
     },
-    /// What the plan in a CSV file differs in from the committed timing set of an intersection, as
-    /// a text or as CSV.
+    /// The differences between the committed timing set of an intersection and the plan in a CSV
+    /// file, as a text or as CSV.
     CompareRunning {
         id: InterId,
         plan: CsvFile<'a>,
         csv: bool,
     },
-    /// The HTML page of an intersection, with a link to the index of all or without.
+    /// The HTML page of an intersection; if `linked`, with a link to the index.
     Page {
         id: InterId,
         linked: bool,
@@ -128,8 +128,8 @@ pub enum Shown<'a> {
 /// What is printed of the plan in a CSV file.
 #[derive(Clone, Copy)]
 pub enum PlanShown {
-    /// The rules that the plan breaks, with their reasons if `explain`, and behind them what an
-    /// engineer is warned of in it, if `advise`.
+    /// The rules that the plan breaks, with their reasons if `explain`, and then its warnings if
+    /// `advise`.
     Violations { explain: bool, advise: bool },
     /// The picture of a pattern of the plan, as SVG.
     Diagram { pattern: PatternNo },

@@ -15,7 +15,7 @@ use cabinet_core::Day;
 use clap::ArgMatches;
 use signal_values::InterId;
 
-/// For how many seconds a run waits for another one that has its file open, if no number is given.
+/// For how many seconds a run waits while another one has its file open, if no number is given.
 const USUAL_WAIT: u32 = 10;
 
 /// The word of an argument, if it was given.
@@ -25,7 +25,7 @@ fn any_word<'a>(matches: &ArgMatches<'a>, id: &str) -> Option<&'a str>
     matches.get_str(id)
 }
 
-/// The path that an argument's word is, if it was given.
+/// The word of an argument as a path, if it was given.
 pub(crate) fn any_path<'a>(matches: &ArgMatches<'a>, id: &str) -> Option<Path<'a>>
     ensures { result ≡ first_of id.now (rows_of (found_of matches.now)) }
 {
@@ -33,7 +33,7 @@ pub(crate) fn any_path<'a>(matches: &ArgMatches<'a>, id: &str) -> Option<Path<'a
     Some(Path::new(word))
 }
 
-/// The path that an argument's word is; `Unstated` says that the word is missing.
+/// The word of an argument as a path; `Unstated` if it is missing.
 pub(crate) fn path<'a>(matches: &ArgMatches<'a>, id: &str) -> Result<Path<'a>, NoJob>
     ensures { result ≡ word_at id.now (rows_of (found_of matches.now)) }
 {
@@ -50,7 +50,7 @@ fn number_of(word: &str, least: u32, most: u32) -> Option<u32>
     }
 }
 
-/// The number of an argument, if it was given; `Unstated` says that its word spells none of the
+/// The number of an argument, if it was given; `Unstated` if its word spells no number of the
 /// range.
 pub(crate) fn choice(matches: &ArgMatches<'_>, id: &str, range: Range) -> Result<Option<u32>, NoJob>
     ensures { result ≡ choice_at range.0 range.1 id.now (rows_of (found_of matches.now)) }
@@ -64,22 +64,23 @@ pub(crate) fn choice(matches: &ArgMatches<'_>, id: &str, range: Range) -> Result
     }
 }
 
-/// The number of an argument; `Unstated` says that there is none of the range.
+/// The number of an argument; `Unstated` if it is missing or not in the range.
 pub(crate) fn number(matches: &ArgMatches<'_>, id: &str, range: Range) -> Result<u32, NoJob>
     ensures { result ≡ number_within range.0 range.1 id.now (rows_of (found_of matches.now)) }
 {
     choice(matches, id, range)?.ok_or(NoJob::Unstated)
 }
 
-/// The number of an intersection, 1 to 9999, in an argument; `Unstated` says that there is none.
+/// The number of an intersection, 1 to 9999, in an argument; `Unstated` if it is missing or no such
+/// number.
 pub(crate) fn intersection(matches: &ArgMatches<'_>, id: &str) -> Result<InterId, NoJob>
     ensures { result ≡ number_within 1 9_999 id.now (rows_of (found_of matches.now)) }
 {
     InterId::new(number(matches, id, IDS)?).ok_or(NoJob::Unstated)
 }
 
-/// The number of an intersection, 1 to 9999, in an argument, if it was given; `Unstated` says that
-/// its word spells none.
+/// The number of an intersection, 1 to 9999, in an argument, if it was given; `Unstated` if its
+/// word spells no such number.
 pub(crate) fn any_intersection(matches: &ArgMatches<'_>, id: &str) -> Result<Option<InterId>, NoJob>
     ensures { result ≡ choice_at 1 9_999 id.now (rows_of (found_of matches.now)) }
 {
@@ -102,8 +103,8 @@ pub(crate) fn flag(matches: &ArgMatches<'_>, id: &str) -> bool
     }
 }
 
-/// The name of 1 to `MAX` bytes that an argument's word is; `Unstated` says that the word is
-/// missing, `bad` that it is no such name.
+/// The word of an argument as a name of 1 to `MAX` bytes; `Unstated` if it is missing, `bad` if it
+/// is no such name.
 pub(crate) fn name<'a, const MAX: usize>(
     matches: &ArgMatches<'a>,
     id: &str,
@@ -115,8 +116,8 @@ pub(crate) fn name<'a, const MAX: usize>(
     Name::parse(word).ok_or(NoJob::Bad(bad))
 }
 
-/// The day that an argument's word spells as `YYYY-MM-DD`, if it was given; `Bad` says that it
-/// spells no day.
+/// The day that an argument's word spells as `YYYY-MM-DD`, if it was given; `Bad` if it spells no
+/// day.
 pub(crate) fn any_day(matches: &ArgMatches<'_>, id: &str) -> Result<Option<Day>, NoJob>
     ensures { result
         ≡ any_of BadWord.Day day_of (first_of id.now (rows_of (found_of matches.now))) }
@@ -130,16 +131,14 @@ pub(crate) fn any_day(matches: &ArgMatches<'_>, id: &str) -> Result<Option<Day>,
     }
 }
 
-/// The day that an argument's word spells; `Unstated` says that the word is missing, `Bad` that it
-/// spells no day.
+/// The day that an argument's word spells; `Unstated` if it is missing, `Bad` if it spells no day.
 pub(crate) fn day(matches: &ArgMatches<'_>, id: &str) -> Result<Day, NoJob>
     ensures { result ≡ day_at id.now (rows_of (found_of matches.now)) }
 {
     any_day(matches, id)?.ok_or(NoJob::Unstated)
 }
 
-/// The days of `--from DAY --to DAY`; `Unstated` says that one is missing, `Bad` that a word spells
-/// no day.
+/// The days of `--from DAY --to DAY`; `Unstated` if one is missing, `Bad` if a word spells no day.
 pub(crate) fn between(matches: &ArgMatches<'_>) -> Result<Between, NoJob>
     ensures { result ≡ between_at (rows_of (found_of matches.now)) }
 {
@@ -170,8 +169,7 @@ pub(crate) fn list_form(matches: &ArgMatches<'_>) -> ListForm
     }
 }
 
-/// The part whose code an argument's word is, if it was given; `Bad` says that it is no part's
-/// code.
+/// The word of an argument as a part's code, if it was given; `Bad` if it is no such code.
 pub(crate) fn any_part<'a>(matches: &ArgMatches<'a>, id: &str) -> Result<Option<Part<'a>>, NoJob>
     ensures { result
         ≡ any_of BadWord.Part part_of (first_of id.now (rows_of (found_of matches.now))) }
@@ -199,15 +197,15 @@ pub(crate) fn any_csv<'a>(matches: &ArgMatches<'a>, id: &str) -> Option<CsvFile<
     })
 }
 
-/// The CSV file of an argument; `Unstated` says that it is missing.
+/// The CSV file of an argument; `Unstated` if it is missing.
 pub(crate) fn csv_file<'a>(matches: &ArgMatches<'a>, id: &str) -> Result<CsvFile<'a>, NoJob>
     ensures { result ≡ needed (csv_at id.now (rows_of (found_of matches.now))) }
 {
     any_csv(matches, id).ok_or(NoJob::Unstated)
 }
 
-/// The file of an office, if one is given, of `--db FILE [--wait SECONDS]`. `Unstated` says that
-/// SECONDS is no number from 0 to 3600.
+/// The file of an office by `--db FILE [--wait SECONDS]`, if it was given. `Unstated` if SECONDS is
+/// no number from 0 to 3600.
 pub(crate) fn any_office_file<'a>(matches: &ArgMatches<'a>) -> Result<Option<OfficeFile<'a>>, NoJob>
     ensures { result ≡ any_db_at (rows_of (found_of matches.now)) }
 {
@@ -218,7 +216,8 @@ pub(crate) fn any_office_file<'a>(matches: &ArgMatches<'a>) -> Result<Option<Off
     Ok(Some(OfficeFile { path, wait }))
 }
 
-/// The file of an office; `Unstated` says that there is none, or as `any_office_file`.
+/// The file of an office by `--db FILE [--wait SECONDS]`; `Unstated` if it is missing, or if
+/// SECONDS is no number from 0 to 3600.
 pub(crate) fn office_file<'a>(matches: &ArgMatches<'a>) -> Result<OfficeFile<'a>, NoJob>
     ensures { result ≡ db_at (rows_of (found_of matches.now)) }
 {

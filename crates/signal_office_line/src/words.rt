@@ -8,7 +8,7 @@ use signal_values::{NoMemory, Words};
 use std::alloc::Global;
 use std::marker::Model;
 
-/// The path of a file or a folder, or `-` for standard input in place of a CSV file. It is seen as
+/// The path of a file or a folder, or `-` for standard input in place of a CSV file. Contracts see
 /// the list of its bytes.
 #[derive(Drop)]
 pub struct Path<'a> {
@@ -24,7 +24,7 @@ impl<'a> Model for Path<'a> {
 }
 
 impl<'a> Path<'a> {
-    /// The path that a word is; any word is one.
+    /// The word as a path; any word is one.
     pub(crate) fn new(text: &'a str) -> Path<'a>
         ensures { result ≡ text.now }
     {
@@ -39,7 +39,7 @@ impl<'a> Path<'a> {
     }
 }
 
-/// A name of 1 to `MAX` bytes without control characters. It is seen as the list of its bytes.
+/// A name of 1 to `MAX` bytes without control characters. Contracts see the list of its bytes.
 #[derive(Drop)]
 pub struct Name<'a, const MAX: usize> {
     text: &'a str,
@@ -57,7 +57,7 @@ impl<'a, const MAX: usize> Model for Name<'a, MAX> {
 }
 
 impl<'a, const MAX: usize> Name<'a, MAX> {
-    /// The name that a word is, if it has 1 to `MAX` bytes and no control character.
+    /// The word as a name, if it has 1 to `MAX` bytes and no control character.
     pub(crate) fn parse(word: &'a str) -> Option<Name<'a, MAX>>
         ensures { result ≡ words_of MAX word.now }
     {
@@ -65,7 +65,7 @@ impl<'a, const MAX: usize> Name<'a, MAX> {
         Some(Name { text })
     }
 
-    /// The name, in memory of its own; or that memory was refused.
+    /// A copy of the name, in memory of its own.
     pub fn to_words(&self, alloc: Global) -> Result<Words<MAX>, NoMemory>
         ensures { IfOk result (λ words. words ≡ self.now) }
     {
@@ -73,7 +73,7 @@ impl<'a, const MAX: usize> Name<'a, MAX> {
     }
 }
 
-/// The code of a part: 1 to 20 of the bytes `A` to `Z`, `0` to `9` and `-`. It is seen as the list
+/// The code of a part: 1 to 20 of the bytes `A` to `Z`, `0` to `9` and `-`. Contracts see the list
 /// of its bytes.
 #[derive(Drop)]
 pub struct Part<'a> {
@@ -92,7 +92,7 @@ impl<'a> Model for Part<'a> {
 }
 
 impl<'a> Part<'a> {
-    /// The part whose code a word is, if it is one.
+    /// The word as the code of a part, if it is one.
     pub(crate) fn parse(word: &'a str) -> Option<Part<'a>>
         ensures { result ≡ part_of word.now }
     {
@@ -100,7 +100,7 @@ impl<'a> Part<'a> {
         Some(Part { text })
     }
 
-    /// The code, in memory of its own; or that memory was refused.
+    /// A copy of the code, in memory of its own.
     pub fn to_code(&self, alloc: Global) -> Result<PartCode, NoMemory>
         ensures { IfOk result (λ code. code ≡ self.now) }
     {

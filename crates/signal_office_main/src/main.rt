@@ -10,8 +10,7 @@ use std::io::ErrorKind;
 use std::process::ExitCode;
 
 /// Does what the words of the command line ask for, with the standard input and both outputs, and
-/// gives the status. The fault is Words where the words are not UTF-8, or cannot be had, and Memory
-/// where memory for them was refused.
+/// gives the status. The fault is Words if the words are not UTF-8 or can't be read, or Memory.
 fn run(rt: &HostRuntime) -> Result<u8, Fault> {
     let alloc = rt.alloc();
     let words = match env::args(rt) {

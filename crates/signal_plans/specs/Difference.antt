@@ -1,4 +1,4 @@
--- What two timing sets differ in.
+-- How two timing sets differ.
 use Rattle.std.specs.Prelude.{◌≡◌, ◌≢◌, List, map, Option, Some, None}
 use Rattle.std.specs.FinMap.{find, get}
 use Rattle.std.specs.List.Sorted.{IsStrictlySortedBy}
@@ -24,7 +24,7 @@ change_of (Added row) = Put row
 change_of (Removed row) = Remove (key_of row)
 change_of (Changed before after) = Put after
 
--- the changes that make the second set of the first, by their differences
+-- the changes that turn the first set into the second, by their differences
 abbrev pub difference_changes : List Difference → List Change
 difference_changes differences = map change_of differences
 
@@ -32,8 +32,8 @@ difference_changes differences = map change_of differences
 abbrev pub difference_at : Key → List Difference → Option Difference
 difference_at key differences = find key_cmp key (map (λ d. (place_of d, d)) differences)
 
--- a difference fits what two sets have under a key: there is none where both have the same row, or no row, and
--- else it says what stands there
+-- a difference fits what two sets have under a key: none if both have the same row or no row, else one with the rows
+-- that they have
 abbrev pub Explains : Option Row → Option Row → Option Difference → Type 0
 Explains first second None = first ≡ second
 Explains first second (Some (Added row)) = (first ≡ None) × (second ≡ Some row)
@@ -41,13 +41,13 @@ Explains first second (Some (Removed row)) = (first ≡ Some row) × (second ≡
 Explains first second (Some (Changed before after)) =
     (first ≡ Some before) × (second ≡ Some after) × (before ≢ after)
 
--- at each key, the list has no difference where the sets have the same there, and else one that says what they have
+-- at each key, the list has no difference if the sets have the same there, else one with what they have
 abbrev pub EachKeyExplained : Rows → Rows → List Difference → Type 0
 EachKeyExplained first second differences =
     (key : Key) → Explains (get first key) (get second key) (difference_at key differences)
 
--- The list has the differences of two sets, in the order of their keys, each with what stands there. Two sets have
--- one such list.
+-- The list has the differences of two sets, in the order of their keys, each with the rows that the sets have there.
+-- Two sets have only one such list.
 pub record AreTold (first second : Rows) (found : List Difference) : Type 0 where
   pub ascending : IsStrictlySortedBy key_cmp (map place_of found)
   pub explained : EachKeyExplained first second found

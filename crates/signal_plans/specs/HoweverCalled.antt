@@ -1,5 +1,5 @@
--- What a timing set without violations and without warnings means on the street besides the laws of
--- one without violations: whatever calls a walk, the split mode or a button, it has its time.
+-- What a timing set without violations and warnings means on the street beyond the laws of one without violations: a
+-- walk has its time, whatever calls it, the split mode or a button.
 use Rattle.std.specs.Prelude.{◌≡◌, ◌≢◌, ℕ, ◌+◌, ◌*◌, ◌<◌, ◌≤◌, Some, IfSome, IsTrue}
 use Rattle.signal_records.specs.declared.record.Pattern.{Pattern}
 use Rattle.signal_records.specs.declared.record.Ped.{Ped}

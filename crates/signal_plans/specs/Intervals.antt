@@ -36,28 +36,28 @@ pub record FitsSplit (phase : Phase) (split : Split) : Type 0 where
 abbrev pub clear_end : Phase → Ped → ℕ
 clear_end phase ped = 10 * ped.walk + 10 * ped.clear + phase.yellow + phase.red
 
--- who left the curb at one moment and walks 3.5 feet a second is not yet across at another one: in 2
--- tenths of a second that is 7 tenths of a foot
+-- a pedestrian who left the curb at one moment, at 3.5 feet a second (7 tenths of a foot in 2 tenths of a second), is
+-- not yet across at another one
 abbrev pub IsCrossing : Ped → ℕ → ℕ → Type 0
 IsCrossing ped left now = (left ≤ now) × (7 * (now - left) < 2 * ped.width)
 
--- Who leaves the curb by the last moment of the walk is across before clearance, yellow and red are
--- over, one after the other, if they are all shown. Whether the split has room for them is said for
--- a walk that it calls alone (`CallsPedestrian`).
+-- A pedestrian who leaves the curb by the last moment of the walk is across before clearance, yellow and red, one
+-- after the other, are over, if they are all shown. Only for a walk that the split mode calls (`CallsPedestrian`) do
+-- the laws say that the split has room for them.
 abbrev pub CrossesInTime : Phase → Ped → Type 0
 CrossesInTime phase ped =
     (left now : ℕ) → left ≤ 10 * ped.walk → IsCrossing ped left now → now < clear_end phase ped
 
--- who set out from the setback when the walk began and walks 3 feet a second is not yet across
+-- a pedestrian who set out from the setback when the walk began, at 3 feet a second, is not yet across
 abbrev pub IsOnTheWay : Ped → ℕ → Type 0
 IsOnTheWay ped now = 3 * now < ped.setback + ped.width
 
--- who set out from the setback when the walk began, at 3 feet a second, is across before walk,
+-- a pedestrian who set out from the setback when the walk began, at 3 feet a second, is across before walk,
 -- clearance, yellow and red are over, one after the other
 abbrev pub CrossesFromSetback : Phase → Ped → Type 0
 CrossesFromSetback phase ped = (now : ℕ) → IsOnTheWay ped now → now < clear_end phase ped
 
--- who crosses, from the curb or from the setback, is across before walk, clearance, yellow and red
--- are over, one after the other
+-- a pedestrian, from the curb or from the setback, is across before walk, clearance, yellow and red are over, one
+-- after the other
 abbrev pub WalkersCross : Phase → Ped → Type 0
 WalkersCross phase ped = CrossesInTime phase ped × CrossesFromSetback phase ped

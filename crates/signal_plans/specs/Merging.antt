@@ -1,4 +1,4 @@
--- How two lists of rows, each in the order of their keys, are gone over side by side.
+-- How two lists of rows, each in the order of its keys, are walked side by side.
 use Rattle.std.specs.Prelude.{◌≡◌, ◌≢◌, ◌⊎◌, T, List, [], ◌∷◌, ◌++◌, map, Option, Some, None}
 use Rattle.std.specs.declared.cmp.Ordering.{Ordering}
 use Rattle.std.specs.declared.cmp.Ordering.TheVariants.{Less, Greater}
@@ -20,8 +20,8 @@ under_keys key xs = map (λ x. (key x, x)) xs
 abbrev pub KeysAscend : List Row → Type 0
 KeysAscend rows = T (is_sorted key_cmp (under_keys key_of rows))
 
--- how the keys of the first rows of two lists compare; a list that has no row comes last, and where
--- neither has one there is no answer
+-- how the keys of the first rows of two lists compare; a list without a row comes last, and if neither has one there
+-- is no answer
 abbrev pub next_order : List Row → List Row → Option Ordering
 next_order [] [] = None
 next_order [] (b ∷ second) = Some Greater
@@ -37,8 +37,8 @@ pub record AreDifferences (first second : List Row) (differences : List Differen
   pub above : (key : Key) → T (below_all key_cmp key (under_keys key_of first))
       → T (below_all key_cmp key (under_keys key_of second)) → T (below_all key_cmp key (under_keys place_of differences))
 
--- the list of differences grew by the change from one row of a key to another, if these differ; if
--- they are the same, it is as it was
+-- the list of differences grew by the change from one row of a key to another if the rows differ, else it is as it
+-- was
 abbrev pub TellsChange : Row → Row → List Difference → List Difference → Type 0
 TellsChange before after old new =
     ((before ≡ after) × (new ≡ old)) ⊎ ((before ≢ after) × (new ≡ old ++ Changed before after ∷ []))

@@ -1,4 +1,4 @@
--- What the warnings look up of a set once.
+-- What the warnings look up in a set once.
 use Rattle.std.specs.Prelude.{◌≡◌, length}
 use Rattle.signal_records.specs.TimingSet.{Rows}
 use Rattle.signal_rules.specs.Lanes.{used_rings}

@@ -1,4 +1,4 @@
--- What an engineer is warned of in a phase, by the objects of NTCIP 1202 v03, each as a case with whether it is so.
+-- What an engineer is warned of in a phase, by the objects of NTCIP 1202 v03, each as a case with whether it holds.
 use Rattle.std.specs.Prelude.{◌==◌, ℕ, nat_lt, Bool, false, not, ◌&&◌, List, [], ◌∷◌, length, Option, Some, None}
 use Rattle.std.specs.List.{list_any, flat_map}
 use Rattle.signal_records.specs.declared.record.Ped.{Ped}
@@ -40,7 +40,7 @@ listed_pattern (Some pattern) = pattern ∷ []
 abbrev pub patterns : Rows → List Pattern
 patterns set = flat_map (λ n. listed_pattern (pattern_at set n)) pattern_numbers
 
--- a split row serves its phase in each cycle, unless splitMode omits it; without a row there is no service
+-- a split row serves its phase in each cycle, unless splitMode omits it; a phase without a row is not served
 abbrev pub is_serving : Option Split → Bool
 is_serving None = false
 is_serving (Some split) = not (is_omitted split.mode)
@@ -53,15 +53,15 @@ is_served set p = list_any (λ pattern. is_serving (split_at set pattern.split p
 abbrev pub is_never_served : Rows → ℕ → Bool
 is_never_served set p = not (length (patterns set) == 0) && not (is_served set p)
 
--- never-served: the plan has patterns, and none serves the phase, so that it times in free operation alone
+-- never-served: the plan has patterns, and none serves the phase, so that it times only in free operation
 abbrev pub service_case : Rows → ℕ → Bool × Advice
 service_case set p = (is_never_served set p, NeverServed)
 
--- short-passage: phasePassage is less than half a second, as where seconds stand for tenths of them
+-- short-passage: phasePassage is less than half a second, as if seconds were entered for tenths of a second
 abbrev pub passage_case : Phase → Bool × Advice
 passage_case phase = (nat_lt phase.passage 5, ShortPassage phase.passage)
 
--- short-red: phaseRedClear is less than half a second, as where seconds stand for tenths of them
+-- short-red: phaseRedClear is less than half a second, as if seconds were entered for tenths of a second
 abbrev pub red_case : Phase → Bool × Advice
 red_case phase = (nat_lt phase.red 5, ShortRed phase.red)
 
@@ -75,15 +75,16 @@ phase_cases set p phase =
 abbrev pub clearance_case : Ped → Bool × Advice
 clearance_case ped = (ped.clear == 0, NoClearance ped.width)
 
--- not-measured: the crossing's width is 0, of which no rule can say whether its clearance is enough
+-- not-measured: the crossing's width is 0, so that no rule can say whether its clearance is enough
 abbrev pub width_case : Ped → Bool × Advice
 width_case ped = (ped.width == 0, NotMeasured)
 
--- narrow-crossing: the crossing's width is measured and less than 20 feet, as where feet stand for tenths of them
+-- narrow-crossing: the crossing's width is measured and less than 20 feet, as if feet were entered for tenths of a
+-- foot
 abbrev pub narrow_case : Ped → Bool × Advice
 narrow_case ped = (not (ped.width == 0) && nat_lt ped.width 200, NarrowCrossing ped.width)
 
--- wide-crossing: the crossing's width is more than 200 feet, as where inches stand for tenths of a foot
+-- wide-crossing: the crossing's width is more than 200 feet, as if inches were entered for tenths of a foot
 abbrev pub wide_case : Ped → Bool × Advice
 wide_case ped = (nat_lt 2_000 ped.width, WideCrossing ped.width)
 

@@ -1,4 +1,4 @@
--- What an engineer is warned of in a plan as a whole, each as a case with whether it is so.
+-- What an engineer is warned of in a plan as a whole, each as a case with whether it holds.
 use Rattle.std.specs.Prelude.{◌==◌, ℕ, nat_lt, Bool, false, not, ◌&&◌, ◌||◌, List, [], ◌∷◌, length, Option, Some}
 use Rattle.std.specs.List.{list_all}
 use Rattle.signal_records.specs.declared.record.Phase.{Phase}
@@ -10,7 +10,7 @@ use Rattle.signal_plans.specs.declared.warning.Advice.{Advice}
 use Rattle.signal_plans.specs.declared.warning.Advice.TheVariants.{NoPattern, NoConflict}
 use Rattle.signal_plans.specs.PhaseWarnings.{patterns}
 
--- two phases of the set are in one ring (phaseRing), or the first lists the second, of this number (phaseConcurrency):
+-- two phases of the set are in one ring (phaseRing), or the first lists the number of the second (phaseConcurrency):
 -- nothing but a ring keeps them apart
 abbrev pub may_time : Option Phase → ℕ → Option Phase → Bool
 may_time (Some phase) q (Some other) = phase.ring == other.ring || is_in q phase.mates

@@ -1,4 +1,5 @@
--- What an engineer is warned of in a split row, by the objects of NTCIP 1202 v03, each as a case with whether it is so.
+-- What an engineer is warned of in a split row, by the objects of NTCIP 1202 v03, each as a case with whether it
+-- holds.
 use Rattle.std.specs.Prelude.{◌+◌, ◌*◌, ℕ, nat_lt, Bool, true, false, not, ◌&&◌, [], ◌∷◌, Option, Some, None, is_some, is_none}
 use Rattle.signal_records.specs.declared.record.Phase.{Phase}
 use Rattle.signal_records.specs.declared.record.Split.{Split}
@@ -27,7 +28,7 @@ button_case phase split = (
 abbrev pub recall_case : Phase → Split → Bool × Advice
 recall_case phase split = (is_none phase.ped && recalls_walk split.mode, RecallWithoutWalk)
 
--- what a phase shows besides its green: the lead of a walk that is called, yellow and red, in tenths of a second
+-- what a phase shows besides its green: the lead of a walk that its mode calls, yellow and red, in tenths of a second
 abbrev pub besides_green : Phase → SplitMode → ℕ
 besides_green phase mode = 10 * lead_time (called phase.ped mode) + (phase.yellow + phase.red)
 
@@ -38,7 +39,8 @@ green_case phase split = (
   NoGreen split.time (besides_green phase split.mode),
 )
 
--- what an engineer is warned of in the split row of a phase; of a phase that the set does not have only the rules speak
+-- what an engineer is warned of in the split row of a phase; nothing if the set does not have the phase, which breaks
+-- a rule
 abbrev pub split_warnings : Option Phase → Split → Cases Advice
 split_warnings None split = []
 split_warnings (Some phase) split =

@@ -1,10 +1,9 @@
 -- What a timing set without violations means on the street.
 --
--- The laws speak of the plan as it is programmed: each phase times for all of its split, cycle after
--- cycle. Nothing is promised of a phase that a controller ends early or passes over, since nobody
--- calls it (modes 2 and 3); of the change from one pattern to another; of a plan that is committed
--- in the middle of a cycle; or of free operation, which has no pattern and so no times. `max1` and
--- `passage` are kept, and no rule looks at them.
+-- The laws speak of the plan as it is programmed: each phase times for all of its split, cycle after cycle. They
+-- promise nothing about a phase that a controller ends early or skips because nobody calls it (modes 2 and 3), about
+-- the change from one pattern to another, about a plan that is committed in the middle of a cycle, or about free
+-- operation, which has no pattern and so no times. No rule looks at `max1` and `passage`.
 use Rattle.std.specs.Prelude.{◌≡◌, ◌≢◌, ◌↔◌, ℕ, ◌+◌, ◌*◌, ◌<◌, ◌≤◌, max, Contains, Some, IfSome, IsTrue}
 use Rattle.std.specs.Int.{IsInRange}
 use Rattle.signal_values.specs.declared.number.TheConstants.{PHASES, RINGS}
@@ -27,14 +26,14 @@ Lists set p q = (phase : Phase) × (phase_at set p ≡ Some phase) × Contains p
 abbrev pub AreConcurrent : Rows → ℕ → ℕ → Type 0
 AreConcurrent set p q = Lists set p q × Lists set q p
 
--- two phases that time at one second, in whatever rings, list each other
+-- two different phases that time at one second, in whatever rings, list each other
 abbrev pub OnlyConcurrentPhasesTime : Rows → Pattern → Type 0
 OnlyConcurrentPhasesTime set pattern =
     (p q second : ℕ) → p ≢ q → IsTiming set pattern p second → IsTiming set pattern q second
     → AreConcurrent set p q
 
--- a phase times in one stretch of the cycle, in its own ring, as long as its split; that is none
--- exactly where the phase is omitted, and is else enough for all that the phase shows
+-- a phase times in one stretch of the cycle, in its own ring, as long as its split; the split is 0 exactly if the
+-- phase is omitted, and else long enough for all that the phase shows
 pub record TimesOnce (set : Rows) (pattern : Pattern) (p : ℕ) (phase : Phase) : Type 0 where
   pub split : Split
   pub row : split_at set pattern.split p ≡ Some split
@@ -81,8 +80,8 @@ pub record IsCoordinated (set : Rows) (pattern : Pattern) : Type 0 where
   pub marked : IsTrue split.coord
   pub served : HasPhase set p phase → IsServed set pattern p
 
--- once a phase has begun, one that is not concurrent with it times only when all of its split is
--- over, with the yellow and red in it (`FitsSplit`), in the same cycle or in a later one
+-- once a phase has begun, a phase that is not concurrent with it times only when the first one's split is over, with
+-- the yellow and red in it (`FitsSplit`), in the same cycle or in a later one
 abbrev pub ConflictsAreCleared : Rows → Pattern → ℕ → Phase → Type 0
 ConflictsAreCleared set pattern p phase =
     (split : Split) (begin q second : ℕ) → split_at set pattern.split p ≡ Some split
@@ -90,8 +89,8 @@ ConflictsAreCleared set pattern p phase =
     → p ≢ q → ¬ AreConcurrent set p q → InItsCycle pattern (IsTiming set pattern q) second
     → begin ≤ second → begin + split.time ≤ second
 
--- Rings cross a barrier together: where a phase starts, each ring that timed a phase the second
--- before that is not concurrent with it starts a phase too, also from one cycle to the next.
+-- Rings cross a barrier together: where a phase starts, each ring that timed a phase not concurrent with it in the
+-- second before starts a phase too, also from one cycle to the next.
 abbrev pub BarriersAreCrossedTogether : Rows → Pattern → ℕ → Phase → Type 0
 BarriersAreCrossedTogether set pattern p phase =
     (ring q second : ℕ) → IsInRange 1 RINGS ring → IsInRange 1 PHASES q
@@ -99,8 +98,8 @@ BarriersAreCrossedTogether set pattern p phase =
     → p ≢ q → ¬ AreConcurrent set p q → InItsCycle pattern (TimesIn set pattern ring q) second
     → (next : ℕ) × InItsCycle pattern (StartsIn set pattern ring next) (1 + second)
 
--- where splitMode is one of these modes, a walk lies with its clearance within the phase's own time,
--- and so does its lead with the minimum green after it
+-- where splitMode is one of these modes, a walk and its clearance lie within the phase's own time, and so do its lead
+-- and the minimum green after it
 abbrev pub WalkLiesWithin : (SplitMode → Type 0) → Rows → Pattern → ℕ → Phase → Ped → Type 0
 WalkLiesWithin IsOfModes set pattern p phase ped =
     (split : Split) (begin second : ℕ)
@@ -118,9 +117,8 @@ pub record HasTheStreet (set : Rows) (pattern : Pattern) (p second : ℕ) : Type
 abbrev pub LiesIn : ℕ → ℕ → Type 0
 LiesIn moment second = (10 * second ≤ moment) × (moment < 10 * second + 10)
 
--- Where splitMode is one of these modes: while somebody crosses who left the curb within the walk, the
--- phase of the crossing has the street. A width of 0 was not measured, and nobody crosses it: nothing
--- is said.
+-- Where splitMode is one of these modes: while a pedestrian who left the curb within the walk is crossing, the phase
+-- of the crossing has the street. Nothing is said of a crossing whose width is 0, so not measured.
 abbrev pub WalkersHaveTheStreet : (SplitMode → Type 0) → Rows → Pattern → ℕ → Phase → Ped → Type 0
 WalkersHaveTheStreet IsOfModes set pattern p phase ped =
     (split : Split) (begin left now second : ℕ)
@@ -128,11 +126,11 @@ WalkersHaveTheStreet IsOfModes set pattern p phase ped =
     → BeginsIn set pattern phase.ring p begin → left ≤ 10 * ped.walk → IsCrossing ped left now
     → LiesIn (10 * begin + now) second → HasTheStreet set pattern p second
 
--- a law of a pattern holds of each pattern of a set
+-- a law holds for each pattern of a set
 abbrev pub InEachPattern : Rows → (Pattern → Type 0) → Type 0
 InEachPattern set Law = (n : ℕ) (pattern : Pattern) → HasPattern set n pattern → Law pattern
 
--- a law of a phase holds of each phase of a set
+-- a law holds for each phase of a set
 abbrev pub OfEachPhase : Rows → (ℕ → Phase → Type 0) → Type 0
 OfEachPhase set Law = (p : ℕ) (phase : Phase) → HasPhase set p phase → Law p phase
 
@@ -155,11 +153,10 @@ pub record HasTimeForWalks (IsOfModes : SplitMode → Type 0) (set : Rows) (patt
   pub within : OfEachPhase set (λ p phase. IfSome phase.ped (WalkLiesWithin IsOfModes set pattern p phase))
   pub walkers : OfEachPhase set (λ p phase. IfSome phase.ped (WalkersHaveTheStreet IsOfModes set pattern p phase))
 
--- The laws, in each pattern and of each phase of a set; the last one needs no pattern. Walks have
--- their time where the split mode calls them (modes 5 and 6). In the other modes a button may call the
--- walk, and the split need not have room for it: the phase may end, and one that is not concurrent
--- begin, while somebody still crosses. `HoweverCalled` says what holds there of a plan without
--- warnings.
+-- The laws, for each pattern and each phase of a set; the last one needs no pattern. Walks have their time where the
+-- split mode calls them (modes 5 and 6). In the other modes a button may call the walk, and the split need not have
+-- room for it: the phase may end, and one that is not concurrent begin, while somebody still crosses. `HoweverCalled`
+-- says what then holds of a plan without warnings.
 pub record StreetLaws (set : Rows) : Type 0 where
   pub cycles : InEachPattern set (RunsItsCycle set)
   pub apart : InEachPattern set (KeepsApart set)

@@ -8,11 +8,11 @@ use Rattle.signal_records.specs.TimingSet.{Rows}
 use Rattle.signal_records.specs.Within.{current_limits, IsPhaseWithin, IsPatternWithin}
 use Rattle.signal_rules.specs.{Lookup.phase_at, Lookup.split_at, Lookup.pattern_at, SequenceRule.ring_row, Lanes.time_of}
 
--- the set has the phase, with its numbers in the ranges that they have in each row of the program
+-- the set has the phase, with its numbers in the ranges of the program's rows
 abbrev pub HasPhase : Rows → ℕ → Phase → Type 0
 HasPhase set p phase = IsPhaseWithin current_limits p phase × (phase_at set p ≡ Some phase)
 
--- the set has the pattern, with its numbers in the ranges that they have in each row of the program
+-- the set has the pattern, with its numbers in the ranges of the program's rows
 abbrev pub HasPattern : Rows → ℕ → Pattern → Type 0
 HasPattern set n pattern = IsPatternWithin n pattern × (pattern_at set n ≡ Some pattern)
 
@@ -69,7 +69,7 @@ pub record InItsCycle (pattern : Pattern) (IsSo : ℕ → Type 0) (second : ℕ)
   pub counted : second ≡ cycles * pattern.cycle + in_cycle
   pub so : IsSo in_cycle
 
--- a phase stands somewhere before another in a row
+-- a phase is somewhere before another in a row
 pub record StandsBefore (row : List ℕ) (p q : ℕ) : Type 0 where
   pub before : List ℕ
   pub between : List ℕ

@@ -1,4 +1,4 @@
--- The warnings of a plan: what an engineer is told of beside the rules, which refuses nothing.
+-- The warnings of a plan: what an engineer is told besides the rules. A warning refuses nothing.
 use Rattle.std.specs.Prelude.{ℕ, if◌then◌else◌, List, [], ◌∷◌, ◌++◌, Option, Some, None}
 use Rattle.std.specs.List.{flat_map}
 use Rattle.signal_records.specs.declared.record.Phase.{Phase}
@@ -24,7 +24,7 @@ abbrev pub warning_of : Scope → Option Advice → List Warning
 warning_of s None = []
 warning_of s (Some advice) = record { subject = s; advice = advice } ∷ []
 
--- a warning for each of some cases that is so, in their order
+-- a warning for each of some cases that holds, in their order
 abbrev pub told_cases : Scope → Cases Advice → List Warning
 told_cases s [] = []
 told_cases s (c ∷ cs) = if c.0 then record { subject = s; advice = c.1 } ∷ told_cases s cs else told_cases s cs
@@ -49,7 +49,7 @@ pattern_warnings set n (Some pattern) =
     warning_of (scope.Subject (subject.Pattern n)) (coordination_advice set pattern)
     ++ warning_of (scope.Subject (subject.Pattern n)) (crowding_advice set pattern)
 
--- the warnings of a subject; of a sequence there are none
+-- the warnings of a subject; a sequence has none
 abbrev pub warnings_at : Rows → Subject → List Warning
 warnings_at set (subject.Phase p) = phase_warnings set p (phase_at set p)
 warnings_at set (subject.Seq n) = []

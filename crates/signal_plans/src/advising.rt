@@ -18,8 +18,6 @@ use std::alloc::Global;
 
 /// The warnings of a set: phases, split rows and patterns, each by ascending number, then the plan
 /// as a whole; for each what an engineer is warned of, in one order, each once.
-///
-/// `NoMemory` means that a growth was really refused.
 #[tactic(auto, unfolding(crate::specs::Warnings::warnings_of))]
 pub fn warnings(alloc: Global, set: &TimingSet) -> Result<Vec<Warning>, NoMemory>
     ensures { IfOk result (λ found. found.items ≡ warnings_of set.now) }
@@ -33,10 +31,8 @@ pub fn warnings(alloc: Global, set: &TimingSet) -> Result<Vec<Warning>, NoMemory
     Ok(found)
 }
 
-/// The warnings of a pattern: those of the rows of its split plan by ascending phase, then its own.
-/// There are none where the set has no such pattern. Other patterns and splits add no cost.
-///
-/// `NoMemory` means that a growth was really refused.
+/// The warnings of a pattern: those of the rows of its split number by ascending phase, then its
+/// own. There are none if the set has no such pattern. Other patterns and splits add no cost.
 #[tactic(auto, unfolding(crate::specs::Warnings::warnings_of_pattern))]
 pub fn warnings_of_pattern(
     alloc: Global,
@@ -55,7 +51,7 @@ pub fn warnings_of_pattern(
     Ok(found)
 }
 
-/// Adds the warnings of a subject: none where the set does not have it.
+/// Adds the warnings of a subject; none if the set does not have it.
 fn warn(
     alloc: Global,
     set: &TimingSet,
@@ -83,7 +79,7 @@ fn warn(
     }
 }
 
-/// Adds the warnings of a phase, and those of its crossing.
+/// Adds the warnings of a phase, and then of its crossing.
 fn warn_phase(
     set: &TimingSet,
     parts: &PlanParts,
@@ -103,7 +99,7 @@ fn warn_phase(
     }
 }
 
-/// Adds the warnings of the split row of a phase: none where the set does not have the phase.
+/// Adds the warnings of the split row of a phase; none if the set does not have the phase.
 fn warn_split(
     set: &TimingSet,
     n: SplitNo,
@@ -163,7 +159,7 @@ fn tell_any(scope: &Scope, advice: Option<Advice>, found: &mut Vec<Warning>) -> 
     }
 }
 
-/// Adds a warning for each case that is so, in the order of the cases.
+/// Adds a warning for each case that holds, in the order of the cases.
 fn tell(scope: &Scope, cases: &[(bool, Advice)], found: &mut Vec<Warning>) -> Result<(), NoMemory>
     ensures { OnOk result (found.new.items ≡ found.old.items ++ told_cases scope.now cases.now) }
 {

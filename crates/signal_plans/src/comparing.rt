@@ -10,8 +10,8 @@ use signal_records::{NoMemory, Row, TimingSet};
 use std::alloc::Global;
 use std::cmp::Ordering;
 
-/// How the keys of the first rows of two lists compare. A list without a row comes last; where
-/// neither has one, there is no answer.
+/// How the keys of the first rows of two lists compare. A list without a row comes last; if neither
+/// has one, there is no answer.
 fn next_order(first: &[Row], second: &[Row]) -> Option<Ordering>
     ensures { result ≡ next_order first.now second.now }
 {
@@ -51,7 +51,7 @@ fn push_changed(
     Ok(())
 }
 
-/// The differences of two lists of rows, which are each in the order of their keys, in that order.
+/// The differences of two lists of rows, both lists and the result in the order of their keys.
 fn differences_of(
     alloc: Global,
     mut first: &[Row],
@@ -82,11 +82,9 @@ fn differences_of(
     Ok(differences)
 }
 
-/// What the second set differs in from the first: in the order of the keys, one difference for each
-/// key at which the sets differ, with the rows that stand there. The changes that the differences
-/// make turn the first set into the second. It takes time in proportion to the rows of both.
-///
-/// `NoMemory` means that a growth was really refused.
+/// How the second set differs from the first: in the order of the keys, one difference for each key
+/// at which the sets differ, with the rows that they have there. The changes of the differences
+/// turn the first set into the second. It takes time in proportion to the rows of both.
 pub fn compare(
     alloc: Global,
     first: &TimingSet,

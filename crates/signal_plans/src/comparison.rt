@@ -5,7 +5,7 @@ use signal_records::{Key, NoMemory, Row, write_row};
 use std::alloc::{AllocError, Global};
 use std::fmt::Write;
 
-/// The names of the fields of a row, in their order. The kind is the first.
+/// The names of the fields of a row, in their order, the kind first.
 fn field_names(row: &Row) -> &'static [&'static str] {
     match row {
         Row::Phase(_, _) => &[
@@ -18,7 +18,7 @@ fn field_names(row: &Row) -> &'static [&'static str] {
     }
 }
 
-/// The field at a place, counted from 0; a dash where it is empty or there is none.
+/// The field at a place, counted from 0; a dash if it is empty or missing.
 fn field_or_dash(fields: &[String], place: usize) -> &str {
     match fields.get(place) {
         Some(field) if !field.is_empty() => field.as_str(),
@@ -36,7 +36,7 @@ fn push_key(text: &mut String, key: Key) -> Result<(), AllocError> {
     }
 }
 
-/// Appends a sign and the fields of a row with commas between, as they stand in a CSV file.
+/// Appends a sign and the fields of a row with commas between, as in a CSV file.
 fn push_row(alloc: Global, text: &mut String, sign: &str, row: &Row) -> Result<(), NoMemory> {
     let fields = write_row(alloc, row)?.as_slice().join(alloc, ",")?;
     write!(text, "{sign} {fields}")
@@ -76,12 +76,9 @@ fn push_changed(
 }
 
 /// A line for each difference, or the one line `no differences`. Each line ends in a line feed. A
-/// row that was added stands after `+ ` and one that was removed after `- `, each as in a CSV file.
-/// Of a row that was changed, after `~ `, stand the key and each field that differs: its name, its
-/// value before, ` > `, and its value after. A field that is empty, or that the row does not have,
-/// is a dash.
-///
-/// `NoMemory` means that a growth was refused.
+/// row that was added follows `+ ` and one that was removed `- `, each as in a CSV file. A row that
+/// was changed has `~ `, its key and each field that differs: its name, its value before, ` > `,
+/// and its value after. A field that is empty, or that the row does not have, is a dash.
 pub fn comparison_text(alloc: Global, differences: &[Difference]) -> Result<Vec<u8>, NoMemory> {
     let mut text = String::new(alloc);
     for difference in differences {

@@ -28,10 +28,8 @@ fn change_of(difference: &Difference) -> Result<Change, NoMemory>
     })
 }
 
-/// The changes that make the second set of the first, in the order of the differences: a row that
-/// was added or changed is put, and the key of one that was removed is removed.
-///
-/// `NoMemory` means that a growth was really refused.
+/// The changes that turn the first set into the second, in the order of the differences: a row that
+/// was added or changed is put, and the key of a row that was removed is removed.
 pub fn changes(alloc: Global, differences: &[Difference]) -> Result<Vec<Change>, NoMemory>
     ensures { IfOk result (λ changes. changes.items ≡ difference_changes differences.now) }
 {

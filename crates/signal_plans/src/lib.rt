@@ -1,11 +1,11 @@
-//! What is said of timing plans beside the rules: what a plan without violations means on the
-//! street, what an engineer is warned of in one, and what two differ in. None of it is a rule, and
-//! a warning refuses nothing.
+//! What is said of timing plans besides the rules: what a plan without violations means on the
+//! street, what an engineer is warned of in a plan, and how two plans differ. A warning refuses
+//! nothing.
 //!
 //! Seconds and objects are those of NTCIP 1202 v03. `specs/Timing.antt` says when a phase times,
-//! `specs/Intervals.antt` what it shows then, and `specs/StreetLaws.antt` has the laws. There is a
-//! definition for each warning, in a file for each kind of subject, and `specs/Warnings.antt` has
-//! their order. `specs/Difference.antt` says what two plans differ in.
+//! `specs/Intervals.antt` what it shows then, and `specs/StreetLaws.antt` has the laws. Each
+//! warning has a definition, in a file for each kind of subject, and `specs/Warnings.antt` has
+//! their order. `specs/Difference.antt` says how two plans differ.
 #![tactic(auto)]
 
 mod advising;

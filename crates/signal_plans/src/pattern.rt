@@ -1,5 +1,5 @@
 //! What an engineer is warned of in a pattern: coordinated phases that do not time together, and a
-//! split that leaves another one no second.
+//! long split that leaves another phase of its ring no second more than it needs.
 
 ghost use Rattle.std.specs.Prelude.{◌≡◌, ◌≤◌, ◌*◌, IfOk, length};
 ghost use Rattle.signal_rules.specs.Cases.{first_true};
@@ -14,8 +14,8 @@ use signal_rules::{is_coordinated, phase_at, ring_row, split_at, time_of};
 use std::alloc::Global;
 
 /// What an engineer is warned of in a pattern, if two coordinated phases do not time together: the
-/// first two such phases or, where every phase is coordinated, that. The phases are those of the
-/// set.
+/// first two such phases or, if every phase is coordinated, that this is so. The phases are those
+/// of the set.
 pub(crate) fn coordination_advice(
     alloc: Global,
     set: &TimingSet,
@@ -42,7 +42,7 @@ fn or_all(is_all: bool, phases: usize, apart: Option<Advice>) -> Option<Advice>
     }
 }
 
-/// Those of the phases that a split number coordinates, in order. The phases are those of the set.
+/// The phases of the set that a split number coordinates, in order.
 fn coordinated_phases(
     alloc: Global,
     set: &TimingSet,
@@ -106,7 +106,8 @@ fn time_together(set: &TimingSet, pattern: &Pattern, p: PhaseNo, q: PhaseNo) -> 
     begin < other_end && other_begin < end
 }
 
-/// The second of the cycle at which a phase begins: those before it in its ring's row are over.
+/// The second of the cycle at which a phase begins: the phases before it in its ring's row are
+/// over.
 fn begin_of(set: &TimingSet, pattern: &Pattern, p: PhaseNo) -> u32
     ensures exact { result ≡ begin_of set.now pattern.now p }
     ensures small { result ≤ 255 * 33 }
@@ -133,7 +134,7 @@ fn own_row(set: &TimingSet, n: SeqNo, p: PhaseNo) -> &[PhaseNo]
 }
 
 /// What an engineer is warned of in a pattern, if one of some phases takes more than half of the
-/// cycle and leaves one of others at its need: the first two such phases.
+/// cycle and one of others in its ring has no second more than it needs: the first two such phases.
 pub(crate) fn crowding_advice(
     set: &TimingSet,
     pattern: &Pattern,
@@ -151,8 +152,8 @@ pub(crate) fn crowding_advice(
     }
 }
 
-/// The first of some other phases that this phase leaves at its need, if it takes more than half of
-/// the cycle.
+/// The first of some other phases in the ring of this phase that has no second more than it needs,
+/// if this phase takes more than half of the cycle.
 fn crowded_by(
     set: &TimingSet,
     pattern: &Pattern,
@@ -169,7 +170,8 @@ fn crowded_by(
     None
 }
 
-/// What is told of a phase that takes more than half of the cycle, and another one at its need.
+/// The advice on a phase that takes more than half of the cycle, and another one with no spare
+/// second.
 fn long_split(set: &TimingSet, pattern: &Pattern, phase: PhaseNo, other: PhaseNo) -> Advice
     ensures { result ≡ long_split set.now pattern.now phase other }
 {
@@ -181,8 +183,8 @@ fn long_split(set: &TimingSet, pattern: &Pattern, phase: PhaseNo, other: PhaseNo
     }
 }
 
-/// Whether a phase takes more than half of the cycle, and leaves another one of its ring at its
-/// need.
+/// Whether a phase takes more than half of the cycle, and another one of its ring has no second
+/// more than it needs.
 fn is_crowded(set: &TimingSet, pattern: &Pattern, p: PhaseNo, q: PhaseNo) -> bool
     ensures { result ≡ is_crowded set.now pattern.now p q }
 {
@@ -206,7 +208,7 @@ fn share_ring(set: &TimingSet, p: PhaseNo, q: PhaseNo) -> bool
     }
 }
 
-/// Whether a phase that its split does not omit has what it needs, and no second more.
+/// Whether a phase that its split does not omit has no whole second more than it needs.
 fn is_at_need(set: &TimingSet, pattern: &Pattern, p: PhaseNo) -> bool
     ensures { result ≡ is_at_need (phase_at set.now p) (split_at set.now pattern.now.split p) }
 {

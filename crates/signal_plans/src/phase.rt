@@ -10,16 +10,16 @@ use crate::warning::Advice;
 use signal_records::{Pattern, Ped, Phase, PhaseNo, Split, SplitMode, TimingSet};
 use signal_rules::split_at;
 
-/// The least passage and red of which no warning is given, in tenths of a second.
+/// The least passage and red without a warning, in tenths of a second.
 const HALF_SECOND: u8 = 5;
 
-/// The least width of a crossing of which no warning is given, in tenths of a foot: 20 feet.
+/// The least width of a crossing without a warning, in tenths of a foot: 20 feet.
 const NARROWEST: u32 = 200;
 
-/// The greatest width of a crossing of which no warning is given, in tenths of a foot: 200 feet.
+/// The greatest width of a crossing without a warning, in tenths of a foot: 200 feet.
 const WIDEST: u32 = 2_000;
 
-/// What an engineer may be warned of in a phase itself, each with whether it is so. The parts are
+/// What an engineer may be warned of in a phase itself, each with whether it holds. The parts are
 /// those of the set.
 pub(crate) fn phase_cases(
     set: &TimingSet,
@@ -61,7 +61,7 @@ fn is_alone(phase: &Phase, rings: usize) -> bool
     phase.mates.as_slice().is_empty() && 1 < rings
 }
 
-/// Whether there are patterns, which are those of the set, and none of them serves a phase.
+/// Whether the set has patterns, but none that serves a phase.
 fn is_never_served(set: &TimingSet, patterns: &[Pattern], p: PhaseNo) -> bool
     requires { patterns.now ≡ plan_has.patterns set.now }
     ensures { result ≡ is_never_served set.now p }
@@ -69,7 +69,7 @@ fn is_never_served(set: &TimingSet, patterns: &[Pattern], p: PhaseNo) -> bool
     !patterns.is_empty() && !is_served(set, patterns, p)
 }
 
-/// Whether one of the patterns, which are those of the set, serves a phase.
+/// Whether a pattern of the set serves a phase.
 fn is_served(set: &TimingSet, patterns: &[Pattern], p: PhaseNo) -> bool
     requires { patterns.now ≡ plan_has.patterns set.now }
     ensures { result ≡ is_served set.now p }
@@ -82,8 +82,8 @@ fn is_served(set: &TimingSet, patterns: &[Pattern], p: PhaseNo) -> bool
     false
 }
 
-/// Whether a split row serves its phase in each cycle: its mode does not omit the phase. Without a
-/// row there is no service.
+/// Whether a split row serves its phase in each cycle: its mode does not omit the phase. A phase
+/// without a row is not served.
 pub(crate) fn is_serving(split: Option<Split>) -> bool
     ensures { result ≡ is_serving split }
 {
@@ -93,7 +93,7 @@ pub(crate) fn is_serving(split: Option<Split>) -> bool
     }
 }
 
-/// What an engineer may be warned of in a crossing, each with whether it is so.
+/// What an engineer may be warned of in a crossing, each with whether it holds.
 pub(crate) fn crossing_cases(ped: &Ped) -> [(bool, Advice); 4]
     ensures { result ≡ crossing_warnings (Some ped.now) }
 {

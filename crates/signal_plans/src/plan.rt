@@ -1,4 +1,4 @@
-//! What an engineer is warned of in a plan as a whole, and what is looked up of it once.
+//! What an engineer is warned of in a plan as a whole, and what is looked up in it once.
 
 ghost use Rattle.std.specs.Prelude.{◌≡◌, length, IfOk};
 ghost use Rattle.std.specs.List.{list_all};
@@ -13,7 +13,7 @@ use signal_records::{NoMemory, Pattern, PatternNo, PhaseNo, TimingSet};
 use signal_rules::{pattern_at, phase_at, phases_of, used_rings};
 use std::alloc::Global;
 
-/// What is looked up of a set once: its phases and its patterns, each ascending, and how many rings
+/// What is looked up in a set once: its phases and its patterns, each ascending, and how many rings
 /// have a phase.
 #[derive(Drop)]
 pub(crate) struct PlanParts {
@@ -49,7 +49,7 @@ fn patterns_of(alloc: Global, set: &TimingSet) -> Result<Vec<Pattern>, NoMemory>
     Ok(found)
 }
 
-/// What an engineer may be warned of in a plan as a whole, each with whether it is so. The parts
+/// What an engineer may be warned of in a plan as a whole, each with whether it holds. The parts
 /// are those of the set.
 pub(crate) fn plan_cases(set: &TimingSet, parts: &PlanParts) -> [(bool, Advice); 2]
     requires { AreParts set.now parts.now }
@@ -78,8 +78,7 @@ fn lacks_pattern(phases: &[PhaseNo], patterns: &[Pattern]) -> bool
     !phases.is_empty() && patterns.is_empty()
 }
 
-/// Whether there is more than one ring, and none of the phases, which are those of the set,
-/// conflicts with one of another ring.
+/// Whether there is more than one ring, and no phase of the set conflicts with one of another ring.
 fn lacks_conflict(set: &TimingSet, phases: &[PhaseNo], rings: usize) -> bool
     requires { phases.now ≡ set_has.phases set.now }
     ensures { result ≡ lacks_conflict set.now rings }
@@ -87,7 +86,7 @@ fn lacks_conflict(set: &TimingSet, phases: &[PhaseNo], rings: usize) -> bool
     1 < rings && has_no_conflict(set, phases)
 }
 
-/// Whether none of the phases, which are those of the set, conflicts with one of another ring.
+/// Whether no phase of the set conflicts with one of another ring.
 fn has_no_conflict(set: &TimingSet, phases: &[PhaseNo]) -> bool
     requires { phases.now ≡ set_has.phases set.now }
     ensures { result ≡ has_no_conflict set.now }

@@ -8,7 +8,7 @@ use crate::warning::Advice;
 use signal_records::{Ped, Phase, Split, SplitMode};
 use signal_rules::need_if_called;
 
-/// What an engineer may be warned of in the split row of a phase, each with whether it is so.
+/// What an engineer may be warned of in the split row of a phase, each with whether it holds.
 pub(crate) fn split_cases(phase: &Phase, split: &Split) -> [(bool, Advice); 3]
     ensures { result ≡ split_warnings (Some phase.now) split.now }
 {

@@ -1,4 +1,4 @@
-//! What a plan without violations gives on the street, and one without warnings besides.
+//! What a plan without violations gives on the street, and what one without warnings adds.
 
 ghost use Rattle.std.specs.Prelude.{◌≡◌, ◌↔◌, [], IsTrue, IfOk};
 ghost use Rattle.signal_rules.specs.Violations.{violations_of};
@@ -11,9 +11,7 @@ use signal_records::{NoMemory, TimingSet};
 use signal_rules::violations;
 use std::alloc::Global;
 
-/// Whether a set breaks no rule. Of such a set the laws of the street hold.
-///
-/// `NoMemory` means that a growth was really refused.
+/// Whether a set breaks no rule. The laws of the street hold for such a set.
 pub fn is_fit_for_the_street(alloc: Global, set: &TimingSet) -> Result<bool, NoMemory>
     ensures told { IfOk result (λ fit. IsTrue fit ↔ (violations_of set.now ≡ [])) }
     ensures laws { IfOk result (λ fit. IsTrue fit → StreetLaws set.now) }
@@ -22,11 +20,9 @@ pub fn is_fit_for_the_street(alloc: Global, set: &TimingSet) -> Result<bool, NoM
     Ok(breaks.is_empty())
 }
 
-/// Whether a set breaks no rule and has no warning. Of such a set the laws of the street hold, and
-/// besides, whatever calls a walk, the split mode or a button, the walk has its time: each crossing
-/// is measured and has room in each split that is not omitted. Each coordinated phase has green.
-///
-/// `NoMemory` means that a growth was really refused.
+/// Whether a set breaks no rule and has no warning. The laws of the street hold for such a set, and
+/// a walk has its time, whatever calls it, the split mode or a button: each crossing is measured
+/// and has room in each split that is not omitted. Each coordinated phase has green.
 pub fn is_fit_however_called(alloc: Global, set: &TimingSet) -> Result<bool, NoMemory>
     ensures told { IfOk result (λ fit.
         IsTrue fit ↔ ((violations_of set.now ≡ []) × (warnings_of set.now ≡ []))) }

@@ -131,10 +131,8 @@ impl fmt::Display for Warning {
     }
 }
 
-/// A line for each warning, as `warning: phase 2: the minimum green is 0 s`, and nothing where
-/// there is none. Each line ends in a line feed.
-///
-/// `NoMemory` means that a growth was refused.
+/// A line for each warning, as `warning: phase 2: the minimum green is 0 s`, and nothing if there
+/// is none. Each line ends in a line feed.
 pub fn warnings_text(alloc: Global, found: &[Warning]) -> Result<Vec<u8>, NoMemory> {
     let mut text = String::new(alloc);
     for warning in found {

@@ -64,7 +64,7 @@ pub enum Advice {
         time: u8,
         besides: u32,
     },
-    /// Of a pattern: every phase is coordinated, so many, and two of them have no second of the
+    /// Of a pattern: all phases, so many, are coordinated, and two of them have no second of the
     /// cycle in common.
     AllCoordinated {
         phases: usize,
@@ -86,8 +86,7 @@ pub enum Advice {
     NoPattern {
         phases: usize,
     },
-    /// Of a plan: each phase may time with every phase of the other rings, which are so many in
-    /// all.
+    /// Of a plan with so many rings: each phase may time with every phase of the other rings.
     NoConflict {
         rings: usize,
     },

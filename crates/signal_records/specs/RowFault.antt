@@ -1,4 +1,4 @@
--- What a fault is called.
+-- The number and the name of a fault, and the field that it names.
 use Rattle.std.specs.Prelude.{ℕ, Bool, true, false, List, codes, Option, Some, None}
 use Rattle.signal_records.specs.declared.fault.RowFault.{RowFault}
 use Rattle.signal_records.specs.declared.fault.RowFault.TheVariants as fault

@@ -24,8 +24,8 @@ pub fn number<Of, const LOW: u32, const HIGH: u32>(
     number_up_to(HIGH, fields, place)
 }
 
-/// The number from `LOW` to a last one that the field at a place, counted from 1, spells; Number
-/// where the field spells none, and Range where it is out of the range.
+/// The number from `LOW` to `last` that the field at a place, counted from 1, spells; Number where
+/// the field spells none, and Range where it is out of the range.
 #[tactic(auto, unfolding(crate::specs::Reading::number_at))]
 pub(crate) fn number_up_to<Of, const LOW: u32, const HIGH: u32>(
     last: u32,
@@ -94,7 +94,7 @@ pub(crate) fn mode(fields: &[&[u8]], place: u8) -> Result<SplitMode, RowFault>
 }
 
 /// The distinct phases, from 1 to the last one, that the field at a place, counted from 1, spells;
-/// List where it spells none such. It takes no memory.
+/// List where it spells anything else. It takes no memory.
 #[tactic(auto, unfolding(crate::specs::Reading::list_at))]
 pub(crate) fn phases<'a>(
     last: u32,

@@ -1,11 +1,11 @@
-//! What the versions of the row grammar differ in.
+//! How the versions of the row grammar differ.
 
 ghost use Rattle.std.specs.Prelude.{◌≡◌};
 ghost use Rattle.signal_records.specs.Reading.{ped_width};
 
 use signal_values::{PHASES, RINGS};
 
-/// The limits of a version of the rows.
+/// The limits of a version of the row grammar.
 #[derive(Clone, Copy)]
 pub struct Limits {
     /// The last phase.
@@ -32,7 +32,7 @@ pub(crate) const CURRENT_LIMITS: Limits = Limits {
     has_lead: true,
 };
 
-/// The limits of version 1, which knew no leading pedestrian interval.
+/// The limits of version 1, which has no leading pedestrian interval.
 pub(crate) const VERSION_1_LIMITS: Limits = Limits {
     phases: 16,
     rings: 4,

@@ -10,8 +10,8 @@ use signal_values::{PhaseNo, numeral};
 use std::alloc::Global;
 use std::marker::Model;
 
-/// A field that spells distinct phases, perhaps none, with one space between two. It is seen as the
-/// list of their numbers.
+/// A field that spells distinct phases, perhaps none, with one space between each two. It is seen
+/// as the list of their numbers.
 #[derive(Drop)]
 pub(crate) struct SpelledPhases<'a> {
     bytes: &'a [u8],
@@ -43,8 +43,7 @@ impl<'a> SpelledPhases<'a> {
         }
     }
 
-    /// The list of the phases that the field spells. `NoMemory` means that a growth was really
-    /// refused; an empty list takes no memory.
+    /// The list of the phases that the field spells. An empty list takes no memory.
     pub(crate) fn list(&self, alloc: Global) -> Result<PhaseList, NoMemory>
         ensures list { IfOk result (λ list. list ≡ self.now) }
         ensures memory { IfErr result (λ _. 1 ≤ length self.now) }
@@ -66,8 +65,8 @@ fn phase_in(part: &[u8]) -> Option<PhaseNo>
     PhaseNo::new(numeral(part)?)
 }
 
-/// Whether the bytes spell distinct phases, from 1 to the last one, with one space between two. No
-/// bytes spell no phases.
+/// Whether the bytes spell distinct phases, from 1 to the last one, with one space between each
+/// two. Empty bytes spell the empty list.
 fn spells_phases(last: u32, bytes: &[u8]) -> bool
     requires { last ≤ PHASES }
     ensures { result ≡ spells_phases last bytes.now }

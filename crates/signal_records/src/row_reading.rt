@@ -58,7 +58,7 @@ fn ped(limits: Limits, fields: &[&[u8]]) -> Result<Option<Ped>, RowFault>
 }
 
 /// The phase row that the fields spell, or the first fault. The list of mates is made last, so that
-/// memory is taken for a whole row alone.
+/// only a row without a fault takes memory.
 #[tactic(auto, using(crate::proofs::Wants::none), unfolding(crate::specs::Reading::phase_record))]
 fn phase_record(alloc: Global, limits: Limits, fields: &[&[u8]]) -> Result<Row, RowFault>
     requires phases { limits.phases ≤ PHASES }

@@ -61,7 +61,7 @@ impl Clone for Holder {
     }
 }
 
-/// Who holds the draft after a step, without a copy of a name.
+/// Who holds the draft after a step; it copies no name.
 #[derive(Clone, Copy, PartialEq, Eq)]
 pub enum Holding {
     /// The clerk of the command becomes the owner of the draft, in stage Transaction.

@@ -1,4 +1,5 @@
--- The rules of version 1 of the tables, before the leading pedestrian interval: those of today but V14, over leads of 0.
+-- The rules of version 1 of the tables, which had no leading pedestrian interval: today's without V14, with leads of
+-- 0.
 use Rattle.std.specs.Prelude.{◌≡◌, ℕ, Bool, true, false, not, List, [], ◌∷◌, filter, Option, Some, None, IfSome, option_map}
 use Rattle.std.specs.List.{flat_map}
 use Rattle.signal_records.specs.declared.record.Ped.{Ped}
@@ -18,7 +19,7 @@ use Rattle.signal_rules.specs.Violations.{Findings, broken, findings, subjects, 
 abbrev pub HasNoLead : Option Phase → Type 0
 HasNoLead phase = IfSome phase (λ (p : Phase). IfSome p.ped (λ ped. ped.lead ≡ 0))
 
--- a rule is about the lead: V14 alone is
+-- a rule is about the lead: only V14 is
 abbrev pub is_of_lead : Rule → Bool
 is_of_lead rule.V14 = true
 is_of_lead _ = false
@@ -31,13 +32,13 @@ no_lead ped = record { walk = ped.walk; clear = ped.clear; width = ped.width; se
 abbrev pub without_lead : Phase → Phase
 without_lead p = record { ring = p.ring; min_green = p.min_green; passage = p.passage; max1 = p.max1; yellow = p.yellow; red = p.red; mates = p.mates; ped = option_map no_lead p.ped }
 
--- V8 of a split row, if there is one, by what its phase needs without a lead
+-- V8 of a split row, if there is one, with what its phase needs without a lead
 abbrev pub for_split_before : Rows → ℕ → Option Split → Findings
 for_split_before set p None = []
 for_split_before set p (Some split) = (rule.V8, split_cases p (option_map without_lead (phase_at set p)) split) ∷ []
 
--- the rules on a subject in version 1: of a phase those of today but V14, of a split row V8 by a need without a lead,
--- of a sequence and of a pattern those of today
+-- the rules on a subject in version 1: for a phase today's without V14, for a split row V8 with the need without a
+-- lead, for a sequence or a pattern today's
 abbrev pub findings_before : Rows → Subject → Findings
 findings_before set (subject.Phase p) = filter (λ f. not (is_of_lead f.0)) (findings set (subject.Phase p))
 findings_before set (subject.Split n p) = for_split_before set p (split_at set n p)

@@ -15,7 +15,7 @@ abbrev pub all_true : {A : Type 0} → Cases A → List A
 all_true [] = []
 all_true (c ∷ cs) = if c.0 then c.1 ∷ all_true cs else all_true cs
 
--- the reasons that are true after the first one that is
+-- the true reasons after the first true one
 abbrev pub further : {A : Type 0} → Cases A → List A
 further [] = []
 further (c ∷ cs) = if c.0 then all_true cs else further cs

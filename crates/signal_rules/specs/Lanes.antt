@@ -12,7 +12,7 @@ abbrev pub time_of : Option Split → ℕ
 time_of None = 0
 time_of (Some split) = split.time
 
--- the lane of a ring: each phase of sequenceData, in order, once a second of its splitTime
+-- the lane of a ring: each phase of sequenceData, in order, once for each second of its splitTime
 abbrev pub lane : Rows → ℕ → ℕ → ℕ → List ℕ
 lane set seq split ring = flat_map (λ p. replicate (time_of (split_at set split p)) p) (ring_row set seq ring)
 

@@ -48,15 +48,15 @@ split_at set n p = the_split (get set (key.Split n p))
 abbrev pub pattern_at : Rows → ℕ → Option Pattern
 pattern_at set n = the_pattern (get set (key.Pattern n))
 
--- the last sequence of an intersection: the end of `SeqNo`
+-- the greatest sequence number that an intersection can have, as in `SeqNo`
 abbrev pub last_sequence : ℕ
 last_sequence = 20
 
--- the last split number of an intersection: the end of `SplitNo`
+-- the greatest split number that an intersection can have, as in `SplitNo`
 abbrev pub last_split : ℕ
 last_split = 20
 
--- the last pattern of an intersection: the end of `PatternNo`
+-- the greatest pattern number that an intersection can have, as in `PatternNo`
 abbrev pub last_pattern : ℕ
 last_pattern = 48
 
@@ -88,7 +88,7 @@ is_in n ns = list_any (λ m. m == n) ns
 abbrev pub phases : Rows → List ℕ
 phases set = filter (λ p. is_some (phase_at set p)) phase_numbers
 
--- a sequence is there where one of its rings has a row
+-- the set has a sequence if one of its rings has a row
 abbrev pub has_sequence : Rows → ℕ → Bool
 has_sequence set n = list_any (λ ring. is_some (sequence_at set n ring)) ring_numbers
 

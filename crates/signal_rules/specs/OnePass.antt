@@ -10,6 +10,6 @@ abbrev pub ring_of : Option Phase → List ℕ
 ring_of None = []
 ring_of (Some phase) = phase.ring ∷ []
 
--- the ring of each of some phases that is in the set, in the phases' order
+-- the rings of some phases, in the phases' order, without the phases that are not in the set
 abbrev pub rings_at : Rows → List ℕ → List ℕ
 rings_at set ps = flat_map (λ p. ring_of (phase_at set p)) ps

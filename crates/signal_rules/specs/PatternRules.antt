@@ -18,7 +18,7 @@ use Rattle.signal_rules.specs.Slots.{spans_of, conflicts_in}
 abbrev pub has_splits : Rows → ℕ → Bool
 has_splits set n = list_all (λ p. is_some (split_at set n p)) (phases set)
 
--- V9 of a split number and some phases, in their order: it has a row for each of them
+-- V9 of a split number and some phases, in their order: the split number has a row for each
 abbrev pub splits_cases : Rows → ℕ → List ℕ → Cases Reason
 splits_cases set n ps = map (λ p. (not (is_some (split_at set n p)), reason.Pattern (NoSplit n p))) ps
 
@@ -76,8 +76,8 @@ agree_throughout set lanes cycle = list_all (λ second. all_list_each_other set 
 abbrev pub lanes_agree : Rows → Pattern → Bool
 lanes_agree set pattern = agree_throughout set (lanes set pattern) pattern.cycle
 
--- V13: no reason where at each second the phases of any two lanes list each other; else, second by second, any two
--- phases that time together, with whether they do not list each other
+-- V13: no reason if at each second the phases of any two lanes list each other; else, second by second, any two
+-- phases that time together, with whether they fail to list each other
 abbrev pub conflict_cases : Rows → Pattern → Cases Reason
 conflict_cases set pattern =
     if lanes_agree set pattern then [] else conflicts_in pattern.cycle (spans_of set pattern (used_rings set))

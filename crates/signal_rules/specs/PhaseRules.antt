@@ -49,21 +49,22 @@ walk_cases ped = (not (walk_is_long ped), reason.Crossing (crossing.ShortWalk pe
 abbrev pub clearance : Phase → Ped → ℕ
 clearance phase ped = 10 * ped.clear + (phase.yellow + phase.red)
 
--- V4 (4E.06, pedestrian clearance time): in clearance, yellow and red, who walks 3.5 feet a second crosses the width
+-- V4 (4E.06, pedestrian clearance time): clearance, yellow and red are enough to cross the width at 3.5 feet a second
 abbrev pub clears_crossing : Phase → Ped → Bool
 clears_crossing phase ped = nat_le (2 * ped.width) (7 * clearance phase ped)
 
--- the reason that breaks V4: what crossing takes, rounded up to a tenth of a second, and what there is
+-- the reason that breaks V4: how long crossing takes, rounded up to a tenth of a second, and how long there is
 abbrev pub crossing_cases : Phase → Ped → Cases Reason
 crossing_cases phase ped =
     (not (clears_crossing phase ped), reason.Crossing (crossing.SlowClearance ped.width ((2 * ped.width + 6) / 7) (clearance phase ped))) ∷ []
 
--- V5 (4E.06, walk and clearance together): in walk, clearance, yellow and red, who walks 3 feet a second crosses the
--- setback and the width
+-- V5 (4E.06, walk and clearance together): walk, clearance, yellow and red are enough to cross the setback and the
+-- width at 3 feet a second
 abbrev pub clears_setback : Phase → Ped → Bool
 clears_setback phase ped = nat_le (ped.width + ped.setback) (3 * (10 * ped.walk + clearance phase ped))
 
--- the reason that breaks V5: what crossing from the setback takes, rounded up to a tenth of a second, and what there is
+-- the reason that breaks V5: how long crossing from the setback takes, rounded up to a tenth of a second, and how
+-- long there is
 abbrev pub setback_cases : Phase → Ped → Cases Reason
 setback_cases phase ped =
     (not (clears_setback phase ped), reason.Crossing (crossing.SlowSetback (ped.width + ped.setback) ((ped.width + ped.setback + 2) / 3) (10 * ped.walk + clearance phase ped))) ∷ []

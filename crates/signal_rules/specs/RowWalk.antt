@@ -1,4 +1,4 @@
--- What one walk over the rows of a set finds. The rows stand in the order of their keys.
+-- What one walk over the rows of a set finds. The rows are in the order of their keys.
 use Rattle.std.specs.Prelude.{◌==◌, ℕ, Bool, ◌&&◌, nat_le, if◌then◌else◌, List, [], ◌∷◌, map, Option, Some, None}
 use Rattle.std.specs.List.{cons_option}
 use Rattle.std.specs.Option.{unwrap_or}
@@ -37,7 +37,7 @@ abbrev pub other_than : ℕ → Option ℕ → Option ℕ
 other_than last None = None
 other_than last (Some n) = if n == last then None else Some n
 
--- the sequences of rows that stand in the order of their keys, each once, but for the last one before these rows
+-- the sequences of rows in the order of their keys, each once, without the last one before these rows
 abbrev pub sequences_after : ℕ → List Row → List ℕ
 sequences_after last [] = []
 sequences_after last (r ∷ rows) =

@@ -1,4 +1,4 @@
--- The lanes of a pattern as slots: what is looked up once of each phase that has any time.
+-- The lanes of a pattern as slots: each phase that has any time is looked up once.
 use Rattle.std.specs.Prelude.{◌≡◌, ◌<◌, ◌≤◌, ℕ, ◌+◌, nat_le, nat_lt, min, Bool, true, false, not, ◌&&◌, if◌then◌else◌, List, [], ◌∷◌, ◌++◌, map, filter}
 use Rattle.std.specs.List.{AllByRecursion, list_all, flat_map}
 use Rattle.signal_values.specs.Numbers.{numbers}
@@ -18,7 +18,7 @@ pub record Listing : Type 0 where
   pub phase : ℕ
   pub mates : List ℕ
 
--- what a slot says: the phase has the lane of its ring from a second of the cycle until another, the first after it
+-- a slot: the phase has its ring's lane from a second of the cycle until another, the first after it
 pub record Span : Type 0 where
   pub from : ℕ
   pub until : ℕ
@@ -45,7 +45,7 @@ abbrev pub spans_of : Rows → Pattern → List ℕ → List Span
 spans_of set pattern rings =
     flat_map (λ ring. spans_from set pattern.split 0 (ring_row set pattern.seq ring)) rings
 
--- a span lasts at a second
+-- a span covers a second
 abbrev pub has_second : ℕ → Span → Bool
 has_second second span = nat_le span.from second && nat_lt second span.until
 
@@ -53,11 +53,11 @@ has_second second span = nat_le span.from second && nat_lt second span.until
 abbrev pub are_mates : Listing → Listing → Bool
 are_mates p q = is_in q.phase p.mates && is_in p.phase q.mates
 
--- the spans that have a second
+-- the spans that cover a second
 abbrev pub spans_in : ℕ → List Span → List Span
 spans_in second spans = filter (has_second second) spans
 
--- V13 of a span and each of some later ones, which all last at a second: the two phases list each other. Else they time
+-- V13 of a span and each of some later ones, which all cover a second: the two phases list each other. Else they time
 -- together from that second until one of them is over.
 abbrev pub later_cases : ℕ → Span → List Span → Cases Reason
 later_cases second span later =
@@ -66,26 +66,27 @@ later_cases second span later =
       reason.Pattern (Conflict second (min span.until other.until) span.listing.phase other.listing.phase),
     )) later
 
--- V13 of a span and each later one at a second at which both last: the two phases list each other
+-- V13 of a span and each later one at a second, if the span covers it and the later one does: the two phases list
+-- each other
 abbrev pub slot_cases : ℕ → Span → List Span → Cases Reason
 slot_cases second span later = if has_second second span then later_cases second span (spans_in second later) else []
 
--- V13 of any two of some spans, which all last at a second: the two phases list each other
+-- V13 of any two of some spans, which all cover a second: the two phases list each other
 abbrev pub pair_cases : ℕ → List Span → Cases Reason
 pair_cases second [] = []
 pair_cases second (span ∷ later) = later_cases second span later ++ pair_cases second later
 
--- at each second at which one of some spans begins, the phases of the spans that last then list each other
+-- at each second at which one of some spans begins, the phases of the spans that cover it list each other
 abbrev pub agree_where_begun : List Span → List Span → Bool
 agree_where_begun spans begun = list_all (λ span. holds (pair_cases span.from (spans_in span.from spans))) begun
 
--- the second is the first before `end` at which one of some spans begins and two phases whose spans then last do not list each other; or it is `end`, and
--- there is none
+-- the second is the first before `end` at which one of some spans begins and two phases whose spans cover it do not
+-- list each other; or it is `end`, and there is no such second
 pub record IsFirstConflict (spans begun : List Span) (end second : ℕ) : Type 0 where
   pub within : second ≤ end
   pub broken : second < end → holds (pair_cases second (spans_in second spans)) ≡ false
   pub before : AllByRecursion (λ span. span.from < second → holds (pair_cases span.from (spans_in span.from spans)) ≡ true) begun
 
--- V13 of spans, at each second of the cycle in turn: any two phases whose spans last then list each other
+-- V13 of spans, at each second of the cycle in turn: any two phases whose spans cover it list each other
 abbrev pub conflicts_in : ℕ → List Span → Cases Reason
 conflicts_in cycle spans = flat_map (λ second. pair_cases second (spans_in second spans)) (numbers cycle 0)

@@ -19,14 +19,14 @@ abbrev pub is_omitted : SplitMode → Bool
 is_omitted PhaseOmitted = true
 is_omitted _ = false
 
--- the longer one of two parts that begin together: lead and minimum green, or walk and clearance; the first, if they
--- are equal
+-- the longer of two parts that begin together: lead and minimum green, or walk and clearance; the first, if they are
+-- equal
 abbrev pub longer_part : Ped → ℕ → NeedPart
 longer_part ped min_green =
     if nat_lt (ped.lead + min_green) (ped.walk + ped.clear) then need_part.Walk else need_part.Green
 
--- the part that decides how long a phase must be, by the pedestrian part whose walk is called, if one is, and the
--- minimum green in seconds; it is the green, if no walk is called
+-- the part that decides how long a phase must be, from the pedestrian part whose walk is called, if one is, and the
+-- minimum green in seconds; without a called walk it is the green
 abbrev pub part_called : Option Ped → ℕ → NeedPart
 part_called None min_green = need_part.Green
 part_called (Some ped) min_green = longer_part ped min_green
@@ -39,7 +39,7 @@ governing_part phase mode = part_called (called phase.ped mode) phase.min_green
 abbrev pub split_need : Phase → SplitMode → SplitNeed
 split_need phase mode = record { tenths = need_of phase mode; governs = governing_part phase mode }
 
--- what a phase needs whose walk is called, by the split mode or by a button
+-- what a phase needs if its walk is called, by the split mode or by a button
 abbrev pub need_if_called : Phase → SplitNeed
 need_if_called phase = split_need phase PedestrianRecall
 

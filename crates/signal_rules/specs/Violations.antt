@@ -48,27 +48,27 @@ pattern_findings set pattern =
     ∷ (rule.V11, coordination_cases set pattern)
     ∷ (if has_rows set pattern then lane_findings set pattern else [])
 
--- the rules of a phase; none of one that the set does not have
+-- the rules of a phase; none if the set does not have it
 abbrev pub for_phase : Rows → ℕ → Option Phase → Findings
 for_phase set p None = []
 for_phase set p (Some phase) = phase_findings set p phase
 
--- the rule of a sequence; none of one that has no row
+-- the rule of a sequence; none if it has no row
 abbrev pub for_sequence : Rows → ℕ → Bool → Findings
 for_sequence set n false = []
 for_sequence set n true = (rule.V7, sequence_cases set n) ∷ []
 
--- the rule of a split row; none of one that the set does not have
+-- the rule of a split row; none if the set does not have it
 abbrev pub for_split : Rows → ℕ → Option Split → Findings
 for_split set p None = []
 for_split set p (Some split) = (rule.V8, split_cases p (phase_at set p) split) ∷ []
 
--- the rules of a pattern; none of one that the set does not have
+-- the rules of a pattern; none if the set does not have it
 abbrev pub for_pattern : Rows → Option Pattern → Findings
 for_pattern set None = []
 for_pattern set (Some pattern) = pattern_findings set pattern
 
--- the rules of a subject; none of a subject that the set does not have
+-- the rules of a subject; none if the set does not have it
 abbrev pub findings : Rows → Subject → Findings
 findings set (subject.Phase p) = for_phase set p (phase_at set p)
 findings set (subject.Seq n) = for_sequence set n (has_sequence set n)
@@ -93,7 +93,7 @@ explained_at set s = broken s (findings set s)
 abbrev pub broken_sum : ℕ → Reason → Explained
 broken_sum n why = record { violation = record { subject = subject.Pattern n; rule = rule.V12 }; reason = why }
 
--- V12 of a pattern with each ring that does not fill the cycle, but for the first of these; nothing unless V9 holds
+-- V12 of a pattern with each ring that does not fill the cycle, without the first of these; nothing unless V9 holds
 abbrev pub further_sums : Rows → ℕ → Option Pattern → List Explained
 further_sums set n None = []
 further_sums set n (Some pattern) =
@@ -106,11 +106,11 @@ reasons_at set (subject.Pattern n) =
     explained_at set (subject.Pattern n) ++ further_sums set n (pattern_at set n)
 reasons_at set s = explained_at set s
 
--- the violations alone, of some that were found with their reasons
+-- the violations that were found, without their reasons
 abbrev pub violations_in : List Explained → List Violation
 violations_in found = map (λ e. e.violation) found
 
--- the subject's part of the violations: none of a subject that the set does not have
+-- the violations of a subject; none if the set does not have it
 abbrev pub violations_at : Rows → Subject → List Violation
 violations_at set s = violations_in (explained_at set s)
 

@@ -17,7 +17,8 @@ use signal_records::{Key, NoMemory, TimingSet};
 use std::alloc::Global;
 
 /// Answers for a subject of a set, and keeps two counts: of its calls, and of the seconds at which
-/// it compared phases. A count never falls and never passes `u64::MAX`.
+/// it compared phases, once for each phase that starts there. A count never falls and never passes
+/// `u64::MAX`.
 pub trait Judge {
     /// The answer for a subject of a set.
     ghost answers: { Rows → SubjectOf → List ViolationOf };
@@ -69,14 +70,14 @@ impl Tally {
         }
     }
 
-    /// How many calls there were so far, or `u64::MAX` where there were more.
+    /// How many calls there were so far; `u64::MAX` if there were more.
     pub fn count(&self) -> u64
         ensures { result ≡ ⟦<Tally as Judge>⟧.calls self.now }
     {
         self.calls
     }
 
-    /// At how many seconds phases were compared so far, or `u64::MAX` where there were more.
+    /// At how many seconds phases were compared so far; `u64::MAX` if there were more.
     pub fn seconds(&self) -> u64
         ensures { result ≡ ⟦<Tally as Judge>⟧.seconds self.now }
     {
@@ -95,8 +96,8 @@ impl Judge for Tally {
 
     ghost seconds_within = { λ tally. tally.within.1 };
 
-    /// The violations of the subject. The call is counted first, so that one to which memory is
-    /// refused is counted too.
+    /// The violations of the subject. The call is counted first, so that one that ends in
+    /// `NoMemory` is counted too.
     fn judge(
         &mut self,
         alloc: Global,
@@ -121,8 +122,8 @@ impl Judge for Tally {
 }
 
 /// The judge's answers on the subjects of the draft that a key reaches, in their order. They are
-/// the violations of the draft, where the base has none, the sets differ at most at the keys, and
-/// the judge answers for these subjects what they violate.
+/// the violations of the draft if the base has none, the sets differ at most at the keys, and the
+/// judge answers with the violations of each of these subjects.
 ///
 /// A refusal of memory may leave the judge's counts raised, by no more than the answers raise them.
 pub fn violations_touched<J: Judge>(

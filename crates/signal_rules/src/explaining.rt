@@ -19,10 +19,8 @@ use signal_records::{NoMemory, Pattern, PatternNo, RingNo, TimingSet};
 use std::alloc::Global;
 
 /// The violations of a set in their order, each with the first of its reasons, and V12 once for
-/// each ring that does not fill the cycle. Whatever reason is true of a rule on a subject shows
-/// that the subject breaks the rule.
-///
-/// `NoMemory` means that a growth was really refused.
+/// each ring that does not fill the cycle. Any true reason of a rule on a subject shows that the
+/// subject breaks the rule.
 #[tactic(auto, unfolding(crate::specs::Violations::reasons_of))]
 pub fn reasons(alloc: Global, set: &TimingSet) -> Result<Vec<Explained>, NoMemory>
     ensures told { IfOk result (λ found. AreReasons set.now found.items) }
@@ -37,9 +35,7 @@ pub fn reasons(alloc: Global, set: &TimingSet) -> Result<Vec<Explained>, NoMemor
 }
 
 /// The rules that one subject breaks, each with the first of its reasons, and V12 once for each
-/// ring that does not fill the cycle. There are none where the set does not have the subject.
-///
-/// `NoMemory` means that a growth was really refused.
+/// ring that does not fill the cycle. There are none if the set does not have the subject.
 pub fn reasons_at(
     alloc: Global,
     set: &TimingSet,
@@ -69,8 +65,8 @@ fn push_reasons(
     }
 }
 
-/// Adds V12 of a pattern with each ring that does not fill the cycle, but for the first of these;
-/// nothing without a pattern, or where V9 does not hold.
+/// Adds V12 of a pattern with each ring that does not fill the cycle, without the first of these;
+/// nothing without a pattern, or if V9 does not hold.
 fn push_further_sums(
     alloc: Global,
     set: &TimingSet,
@@ -90,7 +86,7 @@ fn push_further_sums(
     push_after_first(set, n, &pattern, &rings_of(alloc, set, &phases)?, found)
 }
 
-/// Adds V12 with each of some rings that does not fill the cycle, but for the first of these.
+/// Adds V12 with each of some rings that does not fill the cycle, without the first of these.
 fn push_after_first(
     set: &TimingSet,
     n: PatternNo,

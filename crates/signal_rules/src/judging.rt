@@ -65,8 +65,6 @@ impl Finding for Explained {
 
 /// The violations of a set: phases, sequences, split rows and patterns, each by ascending number,
 /// and for each the rules that it breaks in their order, each once.
-///
-/// `NoMemory` means that a growth was really refused.
 #[tactic(auto, unfolding(crate::specs::Violations::violations_of))]
 pub fn violations(alloc: Global, set: &TimingSet) -> Result<Vec<Violation>, NoMemory>
     ensures { IfOk result (λ found. found.items ≡ violations_of set.now) }
@@ -79,8 +77,8 @@ pub fn violations(alloc: Global, set: &TimingSet) -> Result<Vec<Violation>, NoMe
     Ok(found)
 }
 
-/// Adds the rules that the subject breaks: none where the set does not have the subject. Each
-/// second of the cycle at which V13 compares the phases of two rings is counted as a tick.
+/// Adds the rules that the subject breaks; none if the set does not have the subject. Each
+/// comparison that V13 makes, at a second where a ring starts a phase, is counted as a tick.
 pub(crate) fn judge<F: Finding>(
     alloc: Global,
     set: &TimingSet,
@@ -193,8 +191,8 @@ fn judge_sequence<F: Finding>(
     Ok(())
 }
 
-/// Adds the rules of a pattern that it breaks, of V9 to V13 in order. Each second of the cycle at
-/// which V13 compares the phases of two rings is counted as a tick.
+/// Adds those of V9 to V13 that a pattern breaks, in order. Each comparison that V13 makes, at a
+/// second where a ring starts a phase, is counted as a tick.
 fn judge_pattern<F: Finding>(
     alloc: Global,
     set: &TimingSet,
@@ -221,7 +219,7 @@ fn judge_pattern<F: Finding>(
     Ok(())
 }
 
-/// Adds the rule on the lanes of a pattern that it breaks: V12, or V13, which is judged only where
+/// Adds V12 if the lanes of a pattern break it, else V13 if they break that: V13 is judged only if
 /// the lanes fill the cycle. The phases are those of the set.
 fn judge_lanes<F: Finding>(
     alloc: Global,
@@ -248,8 +246,8 @@ fn judge_lanes<F: Finding>(
     Ok(())
 }
 
-/// Adds V13, if slots that fill the cycle conflict. Each second at which the phases of two rings
-/// are compared is counted as a tick.
+/// Adds V13, if slots that fill the cycle conflict. Each comparison, at a second where a ring
+/// starts a phase, is counted as a tick.
 fn judge_slots<F: Finding>(
     slots: &[Slot<'_>],
     cycle: Cycle,

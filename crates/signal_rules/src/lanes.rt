@@ -1,6 +1,6 @@
 //! The lanes of a pattern. The lane of a ring is the phases of its row, each for as many seconds of
-//! the cycle as its split. V12 asks that each lane fills the cycle, V13 that phases of two rings
-//! which time together list each other. No lane is built second by second: its length is a sum of
+//! the cycle as its split. V12 asks that each lane fill the cycle, V13 that phases of two rings
+//! that time together list each other. No lane is built second by second: its length is a sum of
 //! splits, and the rings are compared only at the seconds at which one of them starts a phase. What
 //! this needs of the set is looked up once for each phase of a ring's row.
 
@@ -42,8 +42,8 @@ impl<'s> Model for Slot<'s> {
     } };
 }
 
-/// Whether the splits of a row sum up to the cycle; where they do, the slots of its phases are
-/// added. A sum that would pass the cycle is not made: the answer is then no.
+/// Whether the splits of a row sum up to the cycle; if they do, the slots of its phases are added,
+/// else perhaps some of them. The answer is no as soon as the sum passes the cycle.
 pub(crate) fn row_fills<'s>(
     set: &'s TimingSet,
     pattern: &Pattern,
@@ -130,8 +130,8 @@ pub(crate) fn pair_reason(slots: &[Slot<'_>], second: u32) -> Option<Reason>
     }
 }
 
-/// Why V13 is broken at a second by a slot, if it is: the slot has the second, and so has a later
-/// one, the first of those with which it does not list each other.
+/// Why a slot breaks V13 at a second, if it does: it has the second, and so has a later slot, the
+/// first whose phase and its own do not list each other.
 fn slot_reason(slot: &Slot<'_>, later: &[Slot<'_>], second: u32) -> Option<Reason>
     ensures { result ≡ first_true (slot_cases second slot.now later.now) }
 {
@@ -142,9 +142,9 @@ fn slot_reason(slot: &Slot<'_>, later: &[Slot<'_>], second: u32) -> Option<Reaso
     }
 }
 
-/// Why V13 is broken by a slot from one of its seconds on, if it is: by the first later slot that
-/// has the second and does not list this one, or is not listed by it, until the first of the two
-/// phases is over.
+/// Why a slot breaks V13 from one of its seconds on, if it does: the first later slot that has the
+/// second and does not list this one, or is not listed by it, until the first of the two phases is
+/// over.
 fn later_reason(slot: &Slot<'_>, later: &[Slot<'_>], second: u32) -> Option<Reason>
     ensures { result ≡ first_true (later_cases second slot.now (spans_in second later.now)) }
 {
@@ -190,8 +190,7 @@ fn mates_of(set: &TimingSet, p: PhaseNo) -> &[PhaseNo]
     }
 }
 
-/// The rings that have a phase of the set, in ascending order: 8 at most. `NoMemory` means that a
-/// growth was really refused.
+/// The rings that have a phase of the set, in ascending order: 8 at most.
 pub fn used_rings(alloc: Global, set: &TimingSet) -> Result<Vec<RingNo>, NoMemory>
     ensures rings { IfOk result (λ rings. rings.items ≡ used_rings set.now) }
     ensures few { IfOk result (λ rings. length rings.items ≤ 8) }
@@ -200,7 +199,7 @@ pub fn used_rings(alloc: Global, set: &TimingSet) -> Result<Vec<RingNo>, NoMemor
     rings_of(alloc, set, &phases)
 }
 
-/// The rings that have one of the phases, which are those of the set, in ascending order.
+/// The rings that have a phase of the set, in ascending order. The phases are those of the set.
 pub(crate) fn rings_of(
     alloc: Global,
     set: &TimingSet,

@@ -6,7 +6,7 @@ ghost use Rattle.signal_rules.specs.SplitRule.{governing_part, split_need, need_
 
 use signal_records::{Ped, Phase, SplitMode, need};
 
-/// The part of a phase that decides how long it must be: the longer one of two that begin together.
+/// The part of a phase that decides how long it must be: the longer of two that begin together.
 #[derive(Clone, Copy)]
 pub enum NeedPart {
     /// Lead and minimum green, one after the other.

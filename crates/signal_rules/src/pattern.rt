@@ -13,8 +13,8 @@ use crate::reason::{PatternReason, Reason};
 use crate::sequence::has_sequence;
 use signal_records::{Cycle, NoMemory, Pattern, PhaseNo, RingNo, Split, SplitNo, TimingSet};
 
-/// The reason that breaks V9, if any: `patternSequenceNumber` has no row, or `patternSplitNumber`
-/// has none for a phase, and then for the first. The phases are those of the set.
+/// The reason that breaks V9, if any: `patternSequenceNumber` has no row, or else the first phase
+/// for which `patternSplitNumber` has none. The phases are those of the set.
 pub(crate) fn rows_reason(set: &TimingSet, phases: &[PhaseNo], pattern: &Pattern) -> Option<Reason>
     requires { phases.now ≡ set_has.phases set.now }
     ensures { result ≡ first_true (rows_cases set.now pattern.now) }
@@ -50,8 +50,8 @@ pub(crate) fn offset_reason(pattern: &Pattern) -> Option<Reason>
     Some(Reason::Pattern(PatternReason::LateOffset { offset, cycle }))
 }
 
-/// The reason that breaks V11, if any: in `patternSplitNumber`, `splitCoordPhase` marks none of the
-/// phases, which are those of the set.
+/// The reason that breaks V11, if any: in `patternSplitNumber`, `splitCoordPhase` marks no phase of
+/// the set. The phases are those of the set.
 pub(crate) fn coordination_reason(
     set: &TimingSet,
     phases: &[PhaseNo],
@@ -81,7 +81,7 @@ pub fn is_coordinated(split: Option<Split>) -> bool
 }
 
 /// The reason that breaks V12, if any: the first of the rings whose splits do not sum up to the
-/// cycle. Where there is none, the slots of the rings' rows are added.
+/// cycle. If there is none, the slots of the rings' rows are added.
 pub(crate) fn sum_reason<'s>(
     set: &'s TimingSet,
     pattern: &Pattern,
@@ -107,8 +107,8 @@ pub(crate) fn sum_reason<'s>(
     Ok(None)
 }
 
-/// Whether V13 holds of rings that fill the cycle: their phases list each other at each second at
-/// which one of them starts a phase, and so at each second. Each comparison is a tick: where V13
+/// Whether V13 holds for rings that fill the cycle: their phases list each other at each second at
+/// which one of them starts a phase, and so at each second. Each comparison is a tick: if V13
 /// holds, one for each slot.
 pub(crate) fn rings_agree(slots: &[Slot<'_>], ticks: &mut u64) -> bool
     ensures agree { result ≡ agree_where_begun slots.now slots.now }
@@ -138,8 +138,8 @@ pub(crate) fn conflict_reason(slots: &[Slot<'_>], cycle: Cycle) -> Option<Reason
 }
 
 /// The first second before `end` at which one of some slots begins and two phases time together
-/// that do not list each other; `end` where there is none. The first second of a conflict is the
-/// one at which the later of its two phases begins.
+/// that do not list each other; `end` if there is none. The first second of a conflict is the one
+/// at which the later of its two phases begins.
 fn first_conflict<'s>(slots: &[Slot<'s>], begun: &[Slot<'s>], end: u32) -> u32
     ensures { IsFirstConflict slots.now begun.now end result }
 {

@@ -58,8 +58,8 @@ pub fn clearance(phase: &Phase, ped: &Ped) -> u32
     10 * u32::from(*clear) + (u32::from(*yellow) + u32::from(*red))
 }
 
-/// The reason that breaks V4, if any: who walks 3.5 feet a second does not cross the width in
-/// pedestrian clearance, yellow and red. It is in tenths of a foot and of a second.
+/// The reason that breaks V4, if any: pedestrian clearance, yellow and red are too short to cross
+/// the width at 3.5 feet a second. It is in tenths of a foot and of a second.
 pub(crate) fn clearance_reason(phase: &Phase) -> Option<Reason>
     ensures { result ≡ first_true (of_ped phase.now.ped (crossing_cases phase.now)) }
 {
@@ -79,8 +79,8 @@ pub(crate) fn clearance_reason(phase: &Phase) -> Option<Reason>
     }))
 }
 
-/// The reason that breaks V5, if any: who walks 3 feet a second does not cross setback and width in
-/// walk, pedestrian clearance, yellow and red. It is in tenths of a foot and of a second.
+/// The reason that breaks V5, if any: walk, pedestrian clearance, yellow and red are too short to
+/// cross setback and width at 3 feet a second. It is in tenths of a foot and of a second.
 pub(crate) fn setback_reason(phase: &Phase) -> Option<Reason>
     ensures { result ≡ first_true (of_ped phase.now.ped (setback_cases phase.now)) }
 {

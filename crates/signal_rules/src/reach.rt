@@ -10,8 +10,7 @@ use crate::violation::Subject;
 use signal_records::{Key, NoMemory, TimingSet};
 use std::alloc::Global;
 
-/// The subjects that the draft has and one of the keys reaches, in the order of the subjects, each
-/// once. `NoMemory` means that a growth was really refused.
+/// The subjects of the draft that one of the keys reaches, in the order of the subjects, each once.
 ///
 /// A key reaches its own subject, which for a sequence row is the sequence. A phase also reaches
 /// the phases that list it, every sequence, its split rows and every pattern; a sequence row

@@ -26,7 +26,7 @@ pub enum CrossingReason {
     SlowSetback { length: u32, takes: u32, there: u32 },
     /// V14: the lead in seconds, 1 or 2, which is less than 3.
     ShortLead { lead: u32 },
-    /// V14: lead and walk in seconds, of which the lead is longer.
+    /// V14: a lead that is longer than the walk, both in seconds.
     LongLead { lead: u32, walk: u8 },
 }
 
@@ -44,22 +44,22 @@ pub enum MateReason {
 /// Why a sequence breaks V7.
 #[derive(Clone, Copy)]
 pub enum SequenceReason {
-    /// A phase stands in a row, and the set does not have it.
+    /// A row has a phase that the set does not have.
     NotInPlan {
         phase: PhaseNo,
     },
-    /// A phase stands in the row of another ring than its own.
+    /// A row has a phase of another ring than its own.
     OtherRing {
         phase: PhaseNo,
         ring: RingNo,
         own: RingNo,
     },
-    /// A phase of the set does not stand in the row of its ring.
+    /// The row of its ring lacks a phase of the set.
     Missing {
         phase: PhaseNo,
         ring: RingNo,
     },
-    /// A phase of the set stands in the row of its ring more than once.
+    /// The row of its ring has a phase of the set more than once.
     Repeated {
         phase: PhaseNo,
     },
@@ -101,7 +101,7 @@ pub enum PatternReason {
     NoneCoordinated {
         split: SplitNo,
     },
-    /// V12: the splits of a ring's row add up to another time than the cycle.
+    /// V12: the splits of a ring's row add up to more or less than the cycle.
     OtherSum {
         ring: RingNo,
         sum: u32,

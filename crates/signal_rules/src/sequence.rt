@@ -24,8 +24,8 @@ pub fn has_sequence(set: &TimingSet, n: SeqNo) -> bool
 }
 
 /// The reason that breaks V7, if any: the first phase in the row of a ring, ring by ring, that is
-/// not in the set or not of that ring; else the first of the phases, which are those of the set,
-/// that does not stand exactly once in the row of its ring.
+/// not in the set or not in that ring; else the first phase of the set that is not exactly once in
+/// the row of its ring. The phases are those of the set.
 #[tactic(auto, using(crate::proofs::Cases::first_past, crate::proofs::Cases::first_here))]
 pub(crate) fn sequence_reason(set: &TimingSet, phases: &[PhaseNo], n: SeqNo) -> Option<Reason>
     requires { phases.now ≡ set_has.phases set.now }
@@ -37,7 +37,7 @@ pub(crate) fn sequence_reason(set: &TimingSet, phases: &[PhaseNo], n: SeqNo) -> 
     }
 }
 
-/// The first phase in the row of a ring, ring by ring, that is not in the set or not of that ring.
+/// The first phase in the row of a ring, ring by ring, that is not in the set or not in that ring.
 fn misplaced_reason(set: &TimingSet, n: SeqNo) -> Option<Reason>
     ensures { result ≡ first_true (flat_map (row_cases set.now n) ring_numbers) }
 {
@@ -49,7 +49,7 @@ fn misplaced_reason(set: &TimingSet, n: SeqNo) -> Option<Reason>
     None
 }
 
-/// The first phase in the row of this ring that is not in the set, or not of the ring.
+/// The first phase in the row of this ring that is not in the set, or not in the ring.
 fn misplaced_in(set: &TimingSet, n: SeqNo, ring: RingNo) -> Option<Reason>
     ensures { result ≡ first_true (row_cases set.now n ring) }
 {
@@ -61,8 +61,8 @@ fn misplaced_in(set: &TimingSet, n: SeqNo, ring: RingNo) -> Option<Reason>
     None
 }
 
-/// Why a phase does not belong in the row of a ring, if so: it is not in the set, or of another
-/// ring.
+/// Why a phase does not belong in the row of a ring, if it does not: it is not in the set, or in
+/// another ring.
 fn place_reason(set: &TimingSet, ring: RingNo, phase: PhaseNo) -> Option<Reason>
     ensures { result ≡ first_true (place_cases ring phase (phase_at set.now phase)) }
 {
@@ -76,7 +76,7 @@ fn place_reason(set: &TimingSet, ring: RingNo, phase: PhaseNo) -> Option<Reason>
     Some(Reason::Sequence(SequenceReason::OtherRing { phase, ring, own }))
 }
 
-/// The first of the phases that does not stand exactly once in the row of its ring.
+/// The first of the phases that is not exactly once in the row of its ring.
 fn not_once(set: &TimingSet, phases: &[PhaseNo], n: SeqNo) -> Option<Reason>
     ensures { result ≡ first_true
         (flat_map (λ p. once_cases set.now n p (phase_at set.now p)) phases.now) }
@@ -89,7 +89,7 @@ fn not_once(set: &TimingSet, phases: &[PhaseNo], n: SeqNo) -> Option<Reason>
     None
 }
 
-/// Why a phase of the set breaks V7, if so: it does not stand exactly once in the row of its ring.
+/// Why a phase of the set breaks V7, if it does: it is not exactly once in the row of its ring.
 fn once_reason(set: &TimingSet, n: SeqNo, p: PhaseNo) -> Option<Reason>
     ensures { result ≡ first_true (once_cases set.now n p (phase_at set.now p)) }
 {

@@ -10,7 +10,7 @@ use signal_records::{NoMemory, Row, TimingSet};
 use std::alloc::Global;
 
 /// The subjects of a set: its phases, its sequences that have a row, its split rows and its
-/// patterns, each by ascending number. `NoMemory` means that a growth was really refused.
+/// patterns, each by ascending number.
 pub fn subjects_of(alloc: Global, set: &TimingSet) -> Result<Vec<Subject>, NoMemory>
     ensures { IfOk result (λ found. found.items ≡ subjects set.now) }
 {
@@ -67,8 +67,8 @@ fn add_kind(rows: &[Row], kind: u32, subjects: &mut Vec<Subject>) -> Result<(), 
     Ok(())
 }
 
-/// The subject that a row is judged as: the rows of a sequence are one, and each other row is its
-/// own.
+/// The subject to which a row belongs: for a sequence row its sequence, for any other the row
+/// itself.
 pub fn subject_of(row: &Row) -> Subject
     ensures { result ≡ subject_of row.now }
 {
@@ -80,8 +80,8 @@ pub fn subject_of(row: &Row) -> Subject
     }
 }
 
-/// Adds each sequence that has a row, once. Rows are in the order of their keys, so that those of
-/// a sequence stand one after the other.
+/// Adds each sequence that has a row, once. Rows are in the order of their keys, so that the rows
+/// of a sequence follow each other.
 fn add_sequences(rows: &[Row], subjects: &mut Vec<Subject>) -> Result<(), NoMemory>
     ensures { OnOk result (subjects.new.items ≡ subjects.old.items
         ++ map (λ n. Subject.Seq n) (sequences_after 0 rows.now)) }

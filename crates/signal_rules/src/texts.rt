@@ -70,7 +70,7 @@ impl fmt::Display for CrossingReason {
     }
 }
 
-/// Writes the mate and why it is none, as `mate 9 is not in the plan`.
+/// Writes the mate and what is wrong with it, as `mate 9 is not in the plan`.
 impl fmt::Display for MateReason {
     fn fmt<W: fmt::Write>(&self, f: &mut fmt::Formatter<W>) -> fmt::Result {
         match self {

@@ -22,10 +22,10 @@ pub enum Rule {
     V5,
     /// Each mate of a phase is in the set, is in another ring, and lists the phase.
     V6,
-    /// Each phase stands exactly once in a sequence, in the row of its ring, and nothing else does.
+    /// Each phase is exactly once in a sequence, in the row of its ring, and nothing else is.
     V7,
-    /// The phase of a split row is in the set. Where it is omitted, it has no time and is not
-    /// coordinated, and else it has the time that it needs.
+    /// The phase of a split row is in the set. If it is omitted, it has no time and is not
+    /// coordinated; else it has the time that it needs.
     V8,
     /// A pattern's sequence has a row, and its split number has one for each phase of the set.
     V9,
@@ -38,7 +38,7 @@ pub enum Rule {
     /// Phases that time together list each other, at each second of the cycle; judged where V9 and
     /// V12 hold.
     V13,
-    /// The walk of a phase leads its green by no time, or by 3 seconds or more, at most the walk.
+    /// The walk leads the green by no time, or by 3 seconds or more and at most the walk.
     V14,
 }
 

@@ -13,6 +13,6 @@ is_numeral (b ∷ bs) = list_all is_ascii_digit (b ∷ bs) && (not (b == 48) || 
 abbrev pub within : ℕ → ℕ → ℕ → Option ℕ
 within low high n = if nat_le low n && nat_le n high then Some n else None
 
--- the number from low to high that a text spells, if it spells one, in decimal digits without a leading zero
+-- the number from low to high that a text spells in decimal digits without a leading zero, if it spells one
 unfoldable pub number_spelled : ℕ → ℕ → List ℕ → Option ℕ
 number_spelled low high text = if is_numeral text then within low high (digits_value 10 text) else None

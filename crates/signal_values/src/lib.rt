@@ -14,5 +14,5 @@ pub use number::{
 pub use numerals::numeral;
 pub use words::Words;
 
-/// The error of a growth of memory that was really refused.
+/// The error of an allocator that gave no memory.
 pub use std::alloc::AllocError as NoMemory;

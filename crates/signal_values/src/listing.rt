@@ -2,7 +2,7 @@
 
 use std::marker::Model;
 
-/// Things in their order, kept in a `Vec`. They are seen as the list of them.
+/// Things in their order, kept in a `Vec`. Contracts see the list of them.
 #[derive(Drop)]
 pub struct Listing<T> {
     list: Vec<T>,

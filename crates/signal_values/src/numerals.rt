@@ -8,8 +8,8 @@ ghost use Rattle.signal_values.specs.Numerals.{is_numeral, number_spelled};
 
 use crate::number::Number;
 
-/// The number that decimal digits spell, 0 for none, or `u32::MAX` where it is greater. There is no
-/// answer where a byte is no digit.
+/// The number that decimal digits spell, 0 for no digits, and `u32::MAX` for a greater number.
+/// `None` where a byte is no digit.
 fn digits(bytes: &[u8]) -> Option<u32>
     ensures none { IfNone result (list_all is_ascii_digit bytes.now ≡ false) }
     ensures some { IfSome result (λ n. list_all is_ascii_digit bytes.now ≡ true) }
@@ -25,8 +25,8 @@ fn digits(bytes: &[u8]) -> Option<u32>
     Some(n)
 }
 
-/// The number that a numeral spells, decimal digits without a leading zero, or `u32::MAX` where it
-/// is greater. There is no answer where the bytes are no numeral.
+/// The number that a numeral spells, decimal digits without a leading zero, and `u32::MAX` for a
+/// greater number. `None` where the bytes are no numeral.
 pub fn numeral(bytes: &[u8]) -> Option<u32>
     ensures none { IfNone result (is_numeral bytes.now ≡ false) }
     ensures some { IfSome result (λ n. is_numeral bytes.now ≡ true) }

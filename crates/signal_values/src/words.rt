@@ -45,8 +45,7 @@ impl<const MAX: usize> Words<MAX> {
         Some(text)
     }
 
-    /// A text that `parse` gave, in memory of its own. `NoMemory` means that a growth was really
-    /// refused.
+    /// A text that `parse` gave, in memory of its own.
     pub fn from_parsed(alloc: Global, text: &str) -> Result<Self, NoMemory>
         requires { AreWords MAX text.now }
         ensures { IfOk result (λ words. words ≡ text.now) }
@@ -57,7 +56,7 @@ impl<const MAX: usize> Words<MAX> {
     }
 
     /// A text of these bytes, if they are 1 to `MAX` bytes of UTF-8 without control characters.
-    /// `NoMemory` means that a growth was really refused; only such a text takes memory.
+    /// Other bytes take no memory.
     pub fn new(alloc: Global, bytes: &[u8]) -> Result<Option<Self>, NoMemory>
         ensures accepts { IfOk result (λ words. IsSome words ↔ AreWords MAX bytes.now) }
         ensures keeps { IfOk result (λ words. IfSome words (λ text. text ≡ bytes.now)) }

@@ -1,4 +1,4 @@
-//! The list of the intersections, and that of the overdue inspections.
+//! The list of the intersections, and the list of the overdue inspections.
 
 use super::list::{Cell, Column, ListStyle, first_records, print_csv, print_list, record_of};
 use cabinet_core::OverdueRow;
@@ -22,9 +22,8 @@ const COLUMNS: [Column; 7] = [
 ];
 
 /// The list of intersections in UTF-8: the number of each, its revision, state, owner or `-`,
-/// number of committed rows, days from one inspection to the next, and name. As CSV a record for
-/// each, with the name before the days, and nothing for `-`. `NoMemory` means that a growth was
-/// refused.
+/// number of committed rows, days from one inspection to the next, and name; then their count. As
+/// CSV a record for each, with the name before the days, and nothing in place of `-`.
 pub fn intersections_list(
     alloc: Global,
     style: ListStyle,
@@ -32,7 +31,7 @@ pub fn intersections_list(
 ) -> Result<Vec<u8>, NoMemory> {
     let mut records = first_records(alloc, style, &NAMES)?;
     for listed in list {
-        // A clerk may be called `-`: nobody is an empty word, shown so as CSV.
+        // A clerk may be called `-`, so nobody is an empty word, which CSV shows as it is.
         let owner = match &listed.holder {
             None => "",
             Some(holder) => holder.owner.as_str(),
@@ -52,9 +51,8 @@ pub fn intersections_list(
 }
 
 /// The overdue intersections as CSV, in UTF-8: a record for each, in order, with its number, its
-/// name, and the day on which its inspection fell due, as `YYYY-MM-DD`, or nothing where there
-/// never was one; perhaps below the names of these fields. `NoMemory` means that a growth was
-/// refused.
+/// name, and the day on which its inspection fell due, as `YYYY-MM-DD`, or nothing if there never
+/// was an inspection. The first record has the names of these fields, if the style asks for it.
 pub fn overdue_csv(
     alloc: Global,
     style: ListStyle,

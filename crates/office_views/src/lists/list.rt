@@ -14,7 +14,7 @@ use unicode_width::UnicodeWidthStr;
 /// How a list is printed.
 #[derive(Clone, Copy)]
 pub enum ListStyle {
-    /// Lines of columns below their heading, and how many they are.
+    /// Lines of columns below their heading, and a count of the lines.
     Lines,
     /// CSV.
     Csv,
@@ -34,7 +34,7 @@ impl ListStyle {
     }
 }
 
-/// What stands in a cell of a list.
+/// The content of a cell of a list.
 #[derive(Clone, Copy)]
 pub(crate) enum Cell<'a> {
     Number(u64),
@@ -43,14 +43,14 @@ pub(crate) enum Cell<'a> {
 }
 
 /// A column of the lines of a list: the place of its cell in a record, from 0, and how wide it is
-/// on a terminal, in characters of Latin. A longer cell stands whole.
+/// on a terminal, in Latin characters. A longer cell is not cut.
 #[derive(Clone, Copy)]
 pub(crate) enum Column {
-    /// At the right.
+    /// Right-aligned.
     Right(usize, usize),
-    /// At the left, where a line begins.
+    /// Left-aligned, where a line begins.
     First(usize, usize),
-    /// At the left after two spaces. A dash stands for an empty cell.
+    /// Left-aligned after two spaces. An empty cell is a dash.
     Left(usize, usize),
 }
 
@@ -168,8 +168,8 @@ pub(crate) fn print_lines(
     Ok(text)
 }
 
-/// The records with which a list begins: that of its fields' names, where it is CSV with headings;
-/// else none.
+/// The records with which a list begins: the names of its fields if it is CSV with headings, else
+/// none.
 pub(crate) fn first_records(
     alloc: Global,
     style: ListStyle,
@@ -186,7 +186,7 @@ pub(crate) fn first_records(
     Ok(records)
 }
 
-/// A list as CSV. Whatever its words contain, it is read back as its records.
+/// A list as CSV. Whatever its words contain, it reads back as its records.
 pub(crate) fn print_csv(alloc: Global, records: &[ByteRecord]) -> Result<Vec<u8>, NoMemory>
     ensures { IfOk result (λ text. IsReadBack (map fields_of records.now) text.items) }
 {

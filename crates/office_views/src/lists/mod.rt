@@ -1,9 +1,9 @@
 //! What an office holds, as lists for its people: its intersections, its stock, a part, the open
-//! orders, the used parts, what was done by day, and the register of a cabinet. All but a part and
-//! the register can also be CSV, and the overdue inspections are CSV alone.
+//! orders, the used parts, what was done by day, and the register of a cabinet. Each of them but a
+//! part and the register can also be CSV; the overdue inspections can only be CSV.
 //!
-//! A list as CSV is read back as the cells of its rows. Which cells those are, and how a line shows
-//! them, is tested.
+//! A list as CSV reads back as the cells of its rows. Tests check which cells those are, and how a
+//! line shows them.
 
 mod intersections;
 mod list;

@@ -7,8 +7,8 @@ use office_machine::orders::{NamedOrder, OpenOrder};
 use signal_records::NoMemory;
 use std::alloc::Global;
 
-/// What a list has of an order: the number of its intersection, a name for that, its own number,
-/// the day of its opening, its clerk and its text.
+/// What a list shows of an order: the number of its intersection, a name for the intersection, the
+/// order's number, the day of its opening, its clerk and its text.
 type OrderCells<'a> = (Cell<'a>, Cell<'a>, Cell<'a>, Cell<'a>, Cell<'a>, Cell<'a>);
 
 /// The cells of an order on an intersection of this name.
@@ -43,7 +43,7 @@ const COLUMNS: [Column; 5] = [
 
 /// The list of open orders, as lines of UTF-8: the number of each one's intersection, its own
 /// number, the day on which it was opened, as `YYYY-MM-DD`, the clerk who opened it, and what is to
-/// be done; then their count. `NoMemory` means that a growth was refused.
+/// be done; then their count.
 pub fn orders_text(alloc: Global, orders: &[OpenOrder]) -> Result<Vec<u8>, NoMemory> {
     let mut records = Vec::new(alloc);
     for open in orders {
@@ -68,8 +68,8 @@ const NAMED_COLUMNS: [Column; 6] = [
 
 /// The list of open orders of several intersections, in UTF-8: the number of each one's
 /// intersection, its own number, the day on which it was opened, as `YYYY-MM-DD`, the clerk who
-/// opened it, the name of the intersection, and what is to be done. As CSV a record for each, with
-/// the name after the number of the intersection. `NoMemory` means that a growth was refused.
+/// opened it, the name of the intersection, and what is to be done; then their count. As CSV a
+/// record for each, with the name after the number of the intersection.
 pub fn orders_list(
     alloc: Global,
     style: ListStyle,
@@ -105,9 +105,9 @@ const AGE_COLUMNS: [Column; 7] = [
     Column::Left(6, 0),
 ];
 
-/// The list of those open orders that were opened on a day or before, the oldest first, in UTF-8:
-/// the days from each one's opening to that day, and then what `orders_list` has. As CSV a record
-/// for each, with the age first. `NoMemory` means that a growth was refused.
+/// The list of the open orders that were opened on a day or before, the oldest first, in UTF-8: the
+/// days from each one's opening to that day, and then what `orders_list` shows. As CSV a record for
+/// each, with the age first.
 pub fn orders_by_age(
     alloc: Global,
     style: ListStyle,

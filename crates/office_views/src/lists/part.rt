@@ -1,4 +1,4 @@
-//! What an office holds of a part.
+//! A part, its deliveries and its uses, as lines.
 
 use super::list::{Cell, Column, push_lines, record_of};
 use super::used::UsedPart;
@@ -12,7 +12,7 @@ use std::fmt::Write;
 #[derive(Clone, Copy)]
 pub struct PartShown<'a> {
     pub part: &'a PartCode,
-    /// How many pieces are on hand; none where there never was a delivery of it.
+    /// How many pieces are on hand; none if there never was a delivery of it.
     pub hand: Option<Hand>,
     /// Its deliveries, by number.
     pub deliveries: &'a [Delivery],
@@ -20,7 +20,7 @@ pub struct PartShown<'a> {
     pub used: &'a [UsedPart],
 }
 
-/// The number after that of the last delivery; none where that is 999999.
+/// The number after the last delivery's; none if that is 999999.
 fn next_number(deliveries: &[Delivery]) -> Option<RecordNo> {
     let last = match deliveries.last() {
         Some(delivery) => delivery.number.get(),
@@ -100,7 +100,7 @@ const USE_COLUMNS: [Column; 4] = [
 /// What an office holds of a part, as lines of UTF-8: how many pieces are on hand, and the number
 /// that the next delivery may have; its deliveries, each with its number, its day, as `YYYY-MM-DD`,
 /// and its pieces; its uses, each with the numbers of the intersection, of the order and of the
-/// line, and its pieces; and how many there are. `NoMemory` means that a growth was refused.
+/// line, and its pieces; and how many deliveries and uses there are.
 pub fn part_text(alloc: Global, shown: &PartShown<'_>) -> Result<Vec<u8>, NoMemory> {
     let deliveries = delivery_records(alloc, shown.deliveries)?;
     let uses = use_records(alloc, shown.used)?;

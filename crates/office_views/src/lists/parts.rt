@@ -8,8 +8,8 @@ use std::alloc::Global;
 /// The columns of a list of parts: how many of each, and its code.
 pub(crate) const PART_COLUMNS: [Column; 2] = [Column::Right(1, 10), Column::Left(0, 0)];
 
-/// What is on hand, in UTF-8: how many there are of each part, and its code. As CSV a record for
-/// each, with the code first. `NoMemory` means that a growth was refused.
+/// What is on hand, in UTF-8: how many there are of each part, and its code; then the count of the
+/// parts. As CSV a record for each, with the code first.
 pub fn stock_list(
     alloc: Global,
     style: ListStyle,

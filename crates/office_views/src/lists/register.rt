@@ -8,7 +8,7 @@ use signal_records::{Interval, NoMemory, Words};
 use std::alloc::{AllocError, Global};
 
 /// The first lines of a register: the intersection's number and name, the days from one inspection
-/// to the next, the day on which the next is due, which may lie past the last day of a record, and
+/// to the next, the day on which the next is due, which may be past the last day of a record, and
 /// the next free numbers.
 fn title(
     alloc: Global,
@@ -64,7 +64,7 @@ const USED_COLUMNS: [Column; 3] = [
 
 const CLOSING_COLUMNS: [Column; 2] = [Column::Left(0, 0), Column::Left(1, 0)];
 
-/// Appends the lines of an order: its opening, its parts among those of its cabinet, and its
+/// Appends the lines of an order: its opening, its parts from the lines of the cabinet, and its
 /// closing.
 fn push_order(
     alloc: Global,
@@ -102,10 +102,9 @@ fn push_order(
 }
 
 /// The register of a cabinet, as lines of UTF-8: the intersection's number and name, the days from
-/// one inspection to the next and the day on which the next is due, which follows the latest
-/// inspection, the next free numbers, then the inspections, and the orders, each with its used
-/// parts and its closing, and how many there are. Days are `YYYY-MM-DD`. `NoMemory` means that a
-/// growth was refused.
+/// one inspection to the next, the day on which the next is due after the latest, the next free
+/// numbers, then the inspections, and the orders, each with its used parts and its closing, and how
+/// many there are. Days are `YYYY-MM-DD`.
 pub fn cabinet_text(
     alloc: Global,
     name: &Words<120>,

@@ -11,7 +11,7 @@ use signal_records::{InterId, NoMemory, Words};
 use std::alloc::Global;
 use std::collections::BTreeMap;
 
-/// The days from one on to another, both included; none where the first is later.
+/// The days from one to another, both included; none if the first is later.
 #[derive(Clone, Copy)]
 pub struct Days {
     pub first: Day,
@@ -34,12 +34,11 @@ pub struct UsedPart {
     pub opened: Day,
     /// The clerk who opened the order.
     pub clerk: Words<40>,
-    /// The line of the order: its number and the order's, the part, and how many pieces.
+    /// The line of the order: the order's number and its own, the part, and how many pieces.
     pub used: UsedLine,
 }
 
-/// The day of what was used for an order: that on which it was closed, or was opened, if it is
-/// open.
+/// The day of what was used for an order: the day on which it was closed or, if it is open, opened.
 pub(crate) fn day_of_use(order: &Order) -> Day {
     match &order.closing {
         Some(closing) => closing.day,
@@ -47,7 +46,7 @@ pub(crate) fn day_of_use(order: &Order) -> Day {
     }
 }
 
-/// Appends those of a cabinet's lines that are of this order and, where a part is named, of it.
+/// Appends the cabinet's lines of this order, or only those of one part, if it is given.
 fn add_used_in(
     found: &mut Vec<UsedPart>,
     part: &Option<PartCode>,
@@ -73,8 +72,8 @@ fn add_used_in(
 }
 
 /// Appends what was used for the orders of a cabinet, open or closed, in the order of the orders
-/// and of their lines: all of it, or what was used of one part, and on these days, where some are
-/// given. `NoMemory` means that a growth was refused; some of it may then be there.
+/// and of their lines: only of this part and on these days, if they are given. After `NoMemory`
+/// some of it may be appended.
 pub fn add_used(
     found: &mut Vec<UsedPart>,
     part: &Option<PartCode>,
@@ -140,7 +139,7 @@ const COLUMNS: [Column; 7] = [
     Column::Left(6, 0),
 ];
 
-/// The records of used parts, below their names where these are printed.
+/// The records of used parts, after the names of their fields if the style asks for them.
 fn used_records(
     alloc: Global,
     style: ListStyle,
@@ -166,8 +165,7 @@ fn used_records(
 /// The list of used parts in UTF-8: the code of each part, the number of the intersection, the
 /// number of the order, the day on which the order was opened, as `YYYY-MM-DD`, the number of the
 /// line, how many pieces, and the clerk who opened the order; then how many pieces of each part,
-/// and how many lines. As CSV a record for each, in this order, and no totals. `NoMemory` means
-/// that a growth was refused.
+/// and how many lines. As CSV a record for each, in this order, and no totals.
 pub fn used_list(alloc: Global, style: ListStyle, list: &[UsedPart]) -> Result<Vec<u8>, NoMemory> {
     let records = used_records(alloc, style, list)?;
     if style.is_csv() {

@@ -25,8 +25,8 @@ enum Deed<'a> {
     Closed(&'a Order),
 }
 
-/// The clerk of what was used for an order, or of its closing: who closed it, or who opened it, if
-/// it is open.
+/// The clerk of an order's closing and of what was used for it: who closed the order or, if it is
+/// open, opened it.
 fn last_clerk(order: &Order) -> &Words<40> {
     match &order.closing {
         Some(closing) => &closing.closer,
@@ -70,7 +70,7 @@ impl<'a> Deed<'a> {
         }
     }
 
-    /// The line, the part and the pieces of what was used; nothing else has them.
+    /// The line, the part and the pieces of what was used; empty for anything else.
     fn used(self) -> (Cell<'a>, Cell<'a>, Cell<'a>) {
         match self {
             Deed::Used(_, line) => (
@@ -113,7 +113,7 @@ fn add_deed(
     Ok(())
 }
 
-/// Appends what was done for an order of a cabinet: it was opened, parts were used, it was closed.
+/// Appends what was done for an order of a cabinet on these days: opening, uses and closing.
 fn add_order(
     alloc: Global,
     found: &mut Vec<DayWork>,
@@ -134,7 +134,7 @@ fn add_order(
     Ok(())
 }
 
-/// Appends the inspections of a cabinet.
+/// Appends the inspections of a cabinet on these days.
 fn add_inspections(
     alloc: Global,
     found: &mut Vec<DayWork>,
@@ -149,8 +149,8 @@ fn add_inspections(
 
 /// Appends what was done in a cabinet on some days: its inspections by number, and then for each
 /// order by number its opening, the parts that were used for it, and its closing. A used part has
-/// the day and the clerk of the closing, or of the opening, if the order is open. `NoMemory` means
-/// that a growth was refused; some of it may then be there.
+/// the day and the clerk of the closing, or of the opening, if the order is open. After `NoMemory`
+/// some of it may be appended.
 pub fn add_work(
     alloc: Global,
     found: &mut Vec<DayWork>,
@@ -192,8 +192,8 @@ const COLUMNS: [Column; 8] = [
 
 /// The list of what was done, by day, in UTF-8: the day, as `YYYY-MM-DD`, the number of the
 /// intersection, what was done, the number of the inspection or of the order, the clerk, the part
-/// that was used and how many pieces, and the text; what is of one day stays in its order. As CSV a
-/// record for each, with the line of a used part too. `NoMemory` means that a growth was refused.
+/// that was used and how many pieces, and the text; within a day in the order given; then the
+/// count. As CSV a record for each, with the line of a used part too.
 pub fn work_list(
     alloc: Global,
     style: ListStyle,

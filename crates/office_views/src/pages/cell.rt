@@ -1,4 +1,4 @@
-//! What stands in a cell of a table, or beside the name of a fact.
+//! The content of a cell of a table, or of a fact.
 
 use cabinet_core::{Date, Day, UsedLine, due, write_date};
 use safe_markup::Markup;
@@ -34,15 +34,15 @@ pub(crate) enum Cell<'a> {
     Words(&'a str),
     /// Words, and by how many seconds a split is short.
     Short(&'a str, Tenths),
-    /// A name or text of others, which keeps its direction of writing.
+    /// A name or text of others, which keeps its writing direction.
     Name(&'a str),
     /// Phases in the order in which they are listed.
     Phases(&'a [PhaseNo]),
     PhaseSet(PhaseSet),
     Day(Date),
-    /// A day, or words in its place, and whether an inspection is overdue since then.
+    /// A day, or words in its place, and whether an inspection is overdue since that day.
     DayOr(Option<Date>, &'a str, bool),
-    /// Of these lines, those of the order with this number.
+    /// The lines among these that belong to the order with this number.
     Parts(&'a [UsedLine], RecordNo),
 }
 
@@ -67,8 +67,8 @@ pub(crate) fn due_cell(last: Option<Day>, interval: Interval, overdue: bool) -> 
     Cell::DayOr(date, "never inspected", overdue)
 }
 
-/// The tags of a cell: one that heads a row; one of a day; one of words, which stand at the left;
-/// and one of a number.
+/// The tags of a cell: one that heads a row, one with a day, one with words, which are at the left,
+/// or one with a number.
 pub(crate) fn tags_of(cell: &Cell<'_>) -> (&'static str, &'static str) {
     match cell {
         Cell::Head(_) | Cell::Link(_) => ("<th scope='row'>", "</th>"),
@@ -105,8 +105,8 @@ fn push_phase_set(page: &mut Markup, phases: &PhaseSet) -> fmt::Result {
     Ok(())
 }
 
-/// Writes those lines that are of an order: the number of each, how many pieces were used, and of
-/// which part.
+/// Writes the lines of an order among these: the number of each, how many pieces were used, and the
+/// part; or `none`.
 fn push_parts(page: &mut Markup, lines: &[UsedLine], order: RecordNo) -> fmt::Result {
     if !lines.iter().any(|line| line.order == order) {
         return write!(page, "none");
@@ -123,7 +123,7 @@ fn push_parts(page: &mut Markup, lines: &[UsedLine], order: RecordNo) -> fmt::Re
 
 const OVERDUE: &str = " <strong class='late'>overdue</strong>";
 
-/// Writes what stands in a cell.
+/// Writes the content of a cell.
 pub(crate) fn push_content(page: &mut Markup, cell: &Cell<'_>) -> fmt::Result {
     match *cell {
         Cell::Head(n) => write!(page, "{n}"),

@@ -15,7 +15,7 @@ const BEFORE: &str = "<tr class='before'><td class='w'>changed from</td>";
 
 const AFTER: &str = "<tr class='after'><td class='w'>changed to</td>";
 
-/// Writes a difference: one row that is removed or added, or two of a row that changes, with marks
+/// Writes a difference: one row if a row is removed or added, or two if it changes, with marks
 /// where they differ.
 fn push_change(
     page: &mut Markup,
@@ -48,7 +48,7 @@ fn kind_of(change: &Difference) -> usize {
     }
 }
 
-/// Writes the changes in rows of a kind.
+/// Writes the changes in rows of a kind, and ends their table.
 fn push_kind(
     page: &mut Markup,
     kind: usize,

@@ -1,4 +1,4 @@
-//! The page of an intersection, and that of a plan alone.
+//! The page of an intersection, and the page of a plan alone.
 
 use super::cabinet::push_cabinet;
 use super::changes::push_changes;
@@ -24,7 +24,7 @@ const HEAD: &str = "\
 <meta name='viewport' content='width=device-width, initial-scale=1'>
 <title>";
 
-/// A text as CSS has it between double quotes; a control character is a space.
+/// A text as CSS writes it between double quotes; a control character becomes a space.
 fn css_text(alloc: Global, text: &str) -> Result<String, AllocError> {
     let mut css = String::new(alloc);
     for letter in text.chars() {
@@ -38,7 +38,7 @@ fn css_text(alloc: Global, text: &str) -> Result<String, AllocError> {
     Ok(css)
 }
 
-/// Writes the head of a page, with its title, which also stands on each printed page.
+/// Writes the head of a page, with its title, which each printed page repeats.
 pub(crate) fn push_head(page: &mut Markup, title: &str) -> fmt::Result {
     let printed = css_text(page.alloc(), title)?;
     page.enclose(
@@ -57,8 +57,8 @@ const BODY: &str = "<body>\n<a class='skip' href='#main'>Skip to the plan</a>\n<
 /// The end of a page.
 pub(crate) const END: &str = "</main>\n</body>\n</html>\n";
 
-/// Writes the pictures and tables of a plan with the remarks on it, or that it has none; `whose`
-/// stands behind the name of each table.
+/// Writes the pictures and tables of a plan with the remarks on it, or that it has no rows; `whose`
+/// follows the name of each table.
 fn push_plan(
     page: &mut Markup,
     whose: &'static str,
@@ -83,7 +83,7 @@ fn push_heading(page: &mut Markup, state: &IntersectionState) -> fmt::Result {
     page.enclose("", &name, "</bdi></h1>\n")
 }
 
-/// Writes links to the index, where that is wanted, and to the parts of the page.
+/// Writes links to the index, if the page is linked to it, and to the parts of the page.
 fn push_links(page: &mut Markup, linked: bool, drafted: bool) -> fmt::Result {
     page.own("<nav aria-label='Parts of this page'>\n<ul>\n")?;
     if linked {
@@ -108,8 +108,8 @@ fn push_committed(page: &mut Markup, plan: &TimingSet, warnings: &[Warning]) -> 
     page.own("</section>\n")
 }
 
-/// Writes a plan with the remarks on it, below what it changes of the committed one, if it is a
-/// draft.
+/// Writes a plan with the remarks on it and, if it is a draft, before its tables what it changes in
+/// the committed plan.
 fn push_judged(
     page: &mut Markup,
     whose: &'static str,
@@ -153,10 +153,9 @@ fn push_intersection(
 }
 
 /// The page of an intersection as one HTML text in UTF-8, which needs no other file: facts,
-/// pictures and tables of the committed plan with its warnings, the draft, if there is one, with
-/// what it changes, why it breaks rules, and its warnings, and the register of the cabinet. Where
-/// it is `linked`, it has a link to `index.html` beside it. `NoMemory` means that a growth was
-/// refused.
+/// pictures and tables of the committed plan with its warnings; the draft, if there is one, with
+/// what it changes, why it breaks rules, and its warnings; and the register of the cabinet. If it
+/// is `linked`, it has a link to `index.html` beside it.
 pub fn intersection_page(
     alloc: Global,
     linked: bool,
@@ -182,8 +181,7 @@ fn push_plan_page(page: &mut Markup, file: &str, plan: &TimingSet) -> fmt::Resul
 
 /// The page of a plan alone as one HTML text in UTF-8, which needs no other file: the name of its
 /// file, how many reasons there are why it breaks rules, its warnings, its pictures, and its
-/// tables, each row with its reasons and warnings below it. `NoMemory` means that a growth was
-/// refused.
+/// tables, each row with its reasons and warnings below it.
 pub fn plan_page(alloc: Global, file: &str, plan: &TimingSet) -> Result<Vec<u8>, NoMemory> {
     let mut page = Markup::new(alloc);
     push_plan_page(&mut page, file, plan).map_err(|_| NoMemory)?;

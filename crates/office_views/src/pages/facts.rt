@@ -1,4 +1,4 @@
-//! The facts of an intersection that stand above its plan.
+//! The facts of an intersection above its plan.
 
 use super::cell::{Cell, due_cell, last_cell, push_content};
 use cabinet_core::{CabinetView, latest, open_count};
@@ -27,7 +27,7 @@ const NAMES: [&str; 9] = [
     "Warnings of the committed plan",
 ];
 
-/// Whether a fact is told in this state: a verify status is one of a draft that was handed over.
+/// Whether a fact is shown in this state: only a draft that was handed over has a verify status.
 fn is_told(name: &str, state: DbState) -> bool {
     *name != *"Verify status" || matches!(state, DbState::Verify | DbState::Done)
 }

@@ -36,7 +36,7 @@ const ORDER_COLUMNS: [Column; 6] = [
 
 const STOCK_COLUMNS: [Column; 2] = [Column::Words("Part"), Column::Numbers("On hand (pieces)")];
 
-/// Whether an intersection is overdue for an inspection on the day; without a day, none is.
+/// Whether an intersection is overdue for an inspection on the day; without a day, it is not.
 fn is_overdue(entry: &IndexEntry, day: &Option<Day>) -> bool {
     match (day, &entry.last) {
         (None, _) => false,
@@ -66,7 +66,7 @@ fn push_entry(page: &mut Markup, entry: &IndexEntry, overdue: bool) -> fmt::Resu
     push_row(page, "<tr>", &cells, &[])
 }
 
-/// Writes the table of the intersections, those that are overdue on the day first.
+/// Writes the table of the intersections, the overdue ones on the day first.
 fn push_intersections(page: &mut Markup, entries: &[IndexEntry], day: &Option<Day>) -> fmt::Result {
     let is_empty = entries.is_empty();
     open_table(page, "Intersections", "", &INTERSECTION_COLUMNS, is_empty)?;
@@ -141,10 +141,9 @@ fn push_index(
     page.own(END)
 }
 
-/// The index page of an office as one HTML text in UTF-8: its intersections, those whose inspection
-/// is overdue on the day first and marked, the open orders on all of them, and the stock. Each
-/// intersection links to its page beside the index, as `7.html`. `NoMemory` means that a growth was
-/// refused.
+/// The index page of an office as one HTML text in UTF-8: its intersections, with those whose
+/// inspection is overdue on the day first and marked, the open orders on all of them, and the
+/// stock. Each intersection links to its page beside the index, as `7.html`.
 pub fn index_page(
     alloc: Global,
     shown: &IndexShown,

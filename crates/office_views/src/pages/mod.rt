@@ -1,8 +1,8 @@
-//! The pages of an office as HTML texts: that of an intersection, that of a plan alone, and the
-//! index of all intersections. Each needs no file but those of the pages that it links to.
+//! The pages of an office as HTML texts: the page of an intersection, the page of a plan alone, and
+//! the index of all intersections. Each needs no files but those of the pages that it links to.
 //!
-//! `Markup` sees to it that no character of a name or text of others is markup. Nothing else that
-//! stands in a page is said by a clause: that a page shows what it should is tested.
+//! `Markup` ensures that no character of a name or text of others is markup. No other clause says
+//! what a page contains: tests check that it shows what it should.
 
 mod cabinet;
 mod cell;

@@ -5,7 +5,7 @@ use signal_plans::{Scope, Warning};
 use signal_rules::Explained;
 use std::fmt;
 
-/// Writes how many reasons there are why rules are broken, or that none is broken.
+/// Writes how many reasons there are why rules are broken, or that no rule is broken.
 pub(crate) fn push_reasons_note(page: &mut Markup, reasons: &[Explained]) -> fmt::Result {
     if reasons.is_empty() {
         return page.own("<p class='sound'>It breaks no rule.</p>\n");
@@ -14,8 +14,8 @@ pub(crate) fn push_reasons_note(page: &mut Markup, reasons: &[Explained]) -> fmt
     page.enclose("", &reasons.len(), ". Each stands below its row.</p>\n")
 }
 
-/// Writes how many warnings there are, and those of the plan as a whole; nothing where there is
-/// none.
+/// Writes how many warnings there are, and the warnings of the plan as a whole; nothing if there
+/// are none.
 pub(crate) fn push_warnings_note(page: &mut Markup, warnings: &[Warning]) -> fmt::Result {
     if warnings.is_empty() {
         return Ok(());

@@ -6,8 +6,8 @@ use super::table::Column;
 use signal_records::{Pattern, PatternNo, Ped, Phase, PhaseNo, Row, SplitMode, TimingSet};
 use std::alloc::{AllocError, Global};
 
-/// The name and the columns of each table, in their order. A kind of rows is the place of its
-/// table.
+/// The name and the columns of each table, in their order. The number of a kind of rows is the
+/// place of its table.
 pub(crate) const TABLES: [(&str, &[Column]); 4] = [
     ("Patterns", &PATTERN_COLUMNS),
     ("Sequences", &SEQUENCE_COLUMNS),
@@ -107,7 +107,7 @@ fn phase_cells(p: PhaseNo, phase: &Phase) -> [Cell<'static>; 7] {
     ]
 }
 
-/// The cells of a phase's pedestrian part, or a dash in each where there is none.
+/// The cells of a phase's pedestrian part, or a dash in each if there is none.
 fn ped_cells(ped: &Option<Ped>) -> [Cell<'static>; 6] {
     match ped {
         None => [DASH, DASH, DASH, DASH, Cell::Words("-"), DASH],

@@ -9,7 +9,7 @@ use signal_records::{Row, TimingSet};
 use signal_rules::{Explained, Subject, subject_of};
 use std::fmt;
 
-/// The remarks on a plan that stand in its page.
+/// The remarks on a plan that its page shows.
 #[derive(Clone, Copy)]
 pub(crate) struct Remarks<'a> {
     /// The reasons why the plan breaks rules.
@@ -44,7 +44,7 @@ fn push_remarks(
     Ok(())
 }
 
-/// Writes those rows that are of a kind, over so many columns, each with its remarks below it.
+/// Writes the rows of a kind, over so many columns, each with its remarks below it.
 fn push_rows(
     page: &mut Markup,
     kind: usize,
@@ -62,7 +62,7 @@ fn push_rows(
     Ok(())
 }
 
-/// Writes the tables of a plan by its rows; `whose` stands behind the name of each.
+/// Writes the tables of a plan by its rows; `whose` follows the name of each.
 pub(crate) fn push_plan_tables(
     page: &mut Markup,
     whose: &'static str,

@@ -1,4 +1,4 @@
-//! What is lent for the pages.
+//! What the pages show.
 
 use cabinet_core::{Day, latest, open_count};
 use office_machine::intersections::ListedIntersection;
@@ -15,7 +15,7 @@ pub struct IntersectionShown<'a> {
     pub committed: &'a TimingSet,
     /// The warnings of the committed plan.
     pub warnings: &'a [Warning],
-    /// The draft, where a clerk holds one.
+    /// The draft, if a clerk holds one.
     pub draft: Option<&'a TimingSet>,
     pub cabinet: &'a CabinetShown,
 }
@@ -32,7 +32,7 @@ pub struct IndexEntry {
     pub warnings: usize,
 }
 
-/// What the index page shows of an office, beside its stock.
+/// What the index page shows of an office, besides its stock.
 #[derive(Drop)]
 pub struct IndexShown {
     /// The intersections, by their numbers.
@@ -41,8 +41,8 @@ pub struct IndexShown {
     pub orders: Listing<NamedOrder>,
 }
 
-/// Appends what the index shows of an intersection that is listed, by what the register holds of
-/// it, and by how many warnings its committed plan has. `NoMemory` means that a growth was refused.
+/// Appends what the index shows of a listed intersection, by what the register holds of it, and by
+/// how many warnings its committed plan has.
 pub fn add_entry(
     found: &mut Vec<IndexEntry>,
     listed: &ListedIntersection,

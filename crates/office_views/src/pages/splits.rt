@@ -6,7 +6,8 @@ use signal_rules::{
     NeedPart, SplitNeed, has_phase, is_coordinated, need_if_called, phase_at, split_at,
 };
 
-/// The part that governs a need, and what a split of so many tenths of a second is short of it.
+/// The part that governs a need, and by how much a split of so many tenths of a second is too short
+/// for the need.
 fn governs_cell(need: SplitNeed, time: u32) -> Cell<'static> {
     let part = match need.governs {
         NeedPart::Green => "green",
@@ -20,7 +21,7 @@ fn governs_cell(need: SplitNeed, time: u32) -> Cell<'static> {
 }
 
 /// The needs of a phase in a split of so many tenths of a second: what it needs, what the split has
-/// to spare, below zero where the need is longer, what it needs if the walk is called, and the part
+/// to spare (below zero if the need is longer), what it needs if the walk is called, and the part
 /// that governs that.
 fn cells_of_needs(phase: &Phase, mode: SplitMode, time: u32) -> [Cell<'static>; 4] {
     let need = need(phase, mode);
@@ -33,8 +34,8 @@ fn cells_of_needs(phase: &Phase, mode: SplitMode, time: u32) -> [Cell<'static>; 
     [in_tenths(need), spare, in_tenths(called.tenths), governs]
 }
 
-/// The needs of phase `p` in its split. Empty where the mode omits the phase or the plan does not
-/// have it.
+/// The needs of phase `p` in its split; empty if the mode omits the phase or the plan does not have
+/// it.
 pub(crate) fn need_cells(set: &TimingSet, p: PhaseNo, split: &Split) -> [Cell<'static>; 4] {
     let Split { time, mode, .. } = *split;
     match phase_at(set, p) {
@@ -45,7 +46,7 @@ pub(crate) fn need_cells(set: &TimingSet, p: PhaseNo, split: &Split) -> [Cell<'s
     }
 }
 
-/// The phases of the set that split plan `n` coordinates.
+/// The phases of the set that split number `n` coordinates.
 pub(crate) fn coordinated_in(set: &TimingSet, n: SplitNo) -> PhaseSet {
     let mut phases = [false; PHASES as usize + 1];
     for p in PhaseNo::all() {

@@ -4,7 +4,7 @@ use super::cell::{Cell, push_content, tags_of};
 use safe_markup::Markup;
 use std::fmt::{self, Write};
 
-/// A column of a table, by its heading with its unit. Words stand at the left.
+/// A column of a table, by its heading with its unit. Words are at the left.
 #[derive(Clone, Copy)]
 pub(crate) enum Column {
     Numbers(&'static str),
@@ -18,8 +18,8 @@ fn push_heading(page: &mut Markup, column: Column) -> fmt::Result {
     }
 }
 
-/// Opens a table up to its rows, in a box that scrolls where the page is narrow. `whose` stands
-/// behind its name. An empty one says so in its only row.
+/// Opens a table up to its rows, in a box that scrolls if the page is narrow. `whose` follows its
+/// name. An empty table says so in its only row.
 pub(crate) fn open_table(
     page: &mut Markup,
     name: &'static str,
@@ -46,8 +46,7 @@ pub(crate) fn close_table(page: &mut Markup) -> fmt::Result {
     page.own("</tbody>\n</table>\n</div>\n")
 }
 
-/// Writes a row of cells. A cell is marked where that of the other row in its column shows
-/// something else.
+/// Writes a row of cells. A cell is marked if the cell of the other row in its column differs.
 pub(crate) fn push_row(
     page: &mut Markup,
     opening: &'static str,
