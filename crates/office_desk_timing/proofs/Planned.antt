@@ -7,9 +7,9 @@ use Rattle.signal_plans.specs.declared.difference.Difference.{Difference}
 use Rattle.signal_plans.specs.declared.difference.Difference.TheVariants.{Added, Removed, Changed}
 use Rattle.signal_records.specs.{ChangedRows.changed_key, Key.key_cmp, KeyOrder.key_total, TimingSet.Rows, TimingSet.after_changes, declared.record.Change.Change, declared.record.Row.Row}
 use Rattle.draft_core.specs.{DraftRows.RowsByKey, DraftRows.Stands, News.AreInOrder, Revising.base_of}
-use Rattle.draft_core.specs.Transaction.{Draft, TimingSide, holder_of}
+use Rattle.draft_core.specs.Transaction.{TimingSide, holder_of}
 use Rattle.draft_core.specs.declared.timing.{Reach.TheVariants.Plan, Timing.Timing}
-use Rattle.draft_core.proofs.Overlaid.{base_is}
+use Rattle.draft_core.proofs.{Lines.free_of, Overlaid.base_is}
 use Rattle.office_desk_timing.specs.Revising.{AreChangesTo, IsCommittedAlready, PlansChanges, plan_asked, plan_from}
 use Rattle.office_desk_timing.specs.declared.revising.PlanEdit.{PlanEdit}
 
@@ -55,10 +55,6 @@ module _ {first second : Rows} {changes : List Change} (to : AreChangesTo first 
 
 -- ---- the plan that an edit asks for, of a timing side
 
-no_holder : (held : Option Draft) → option_map holder_of held ≡ None → held ≡ None
-no_holder None e = refl
-no_holder (Some draft) e = absurd (let f : Some (holder_of draft) ≡ None = e in cc)
-
 module _ {timing : Timing} {rows : RowsByKey} {side : TimingSide} {edit : PlanEdit}
     {edits settled : List Change} (stands : Stands Plan timing rows side)
     (plans : PlansChanges timing edit edits settled) where
@@ -75,6 +71,6 @@ module _ {timing : Timing} {rows : RowsByKey} {side : TimingSide} {edit : PlanEd
 
   pub asks_idle : timing.holder ≡ None → settled ≡ [] → IsCommittedAlready edit side
   asks_idle free none = (
-    no_holder side.draft (sym stands.same_holder ∙ free),
+    free_of stands (λ held. held ≡ None) free (λ e. refl),
     sym settled_make.make ∙ ap (after_changes side.committed) none,
   )

@@ -19,7 +19,7 @@ use Rattle.office_tables_shelf.specs.declared.rows.Table.TheVariants as table
 use Rattle.office_tables_shelf.specs.declared.shelf.ShelfFault.TheVariants as fault
 use Rattle.office_desk_timing.specs.{Moving.WritesDecision, declared.reading.Found.Found, declared.revising.PlanEdit.PlanEdit}
 use Rattle.office_desk_timing.specs.Reading.{FoundStands, ListsFound, drafts_at}
-use Rattle.office_desk_timing.specs.Revising.{AnswersAnyEdit, AnswersEdit, DecidesEdit, EditWrites, EditsOffice, IsEditDecision, IsMoved, PlansChanges}
+use Rattle.office_desk_timing.specs.Revising.{AnswersAnyEdit, AnswersEdit, DecidesEdit, EditWrites, IsEditDecision, IsMoved, PlansChanges}
 use Rattle.office_desk_timing.proofs.{AddedRows.move_news, Keeps.side_sound, Shown.found_none, Shown.found_there, Shown.sound_there}
 use Rattle.office_desk_timing.proofs.Planned.{asks_idle, changes_counted, changes_in_order, edits_make, idle_asks, settled_make}
 use Rattle.office_desk_timing.proofs.Transactions.{FollowsLine, IsFound, draft_written, goes, listed_many, no_more, none_written, not_damaged, refused_line, rows_of_move, timing_written}
@@ -48,12 +48,8 @@ module _ (is_honest : Type 0) (tables : Content) (id : ℕ) (clerk : List ℕ) (
   -- of an intersection that is not there
   pub unknown_edit : (is_honest → IsFound Plan tables id None)
       → IsEditDecision is_honest tables id clerk edit (Refused refusal.UnknownIntersection) []
-  unknown_edit finds = told _ (λ side. refl) (λ went_on. went_on) (λ e. cc) (λ honest office stands. record {
-    next = office;
-    step = inr (subst (λ o. EditsOffice office id clerk edit o (Refused refusal.UnknownIntersection) office)
-        (sym (found_none Plan tables office id stands (finds honest).0)) (refl, refl));
-    stand = stands;
-  })
+  unknown_edit finds = told _ (λ side. refl) (λ went_on. went_on) (λ e. cc) (λ honest office stands.
+      record { next = office; step = inr (rw (found_none Plan tables office id stands (finds honest).0) (refl, refl)); stand = stands })
 
   -- a fault of the read that is handed on
   pub handed_edit : (why : ShelfFault) (result : Result Decided ShelfFault) → IsErrAnd result (λ e. e ≡ why)
@@ -68,12 +64,8 @@ module _ (is_honest : Type 0) (tables : Content) (id : ℕ) (clerk : List ℕ) (
     pub idle_edit : (found.timing.holder ≡ None) × (settled ≡ []) → IsEditDecision is_honest tables id clerk edit Same []
     idle_edit none = told _ (λ side. refl) (λ went_on. went_on) (λ e. cc) (λ honest office stands.
         let at = found_there Plan tables office id found stands (finds honest).0 in
-        record {
-          next = office;
-          step = inr (subst (λ o. EditsOffice office id clerk edit o Same office) (sym at.1)
-              ([], inl (asks_idle at.2.timing_stands plans none.0 none.1, refl), refl));
-          stand = stands;
-        })
+        let idle = asks_idle at.2.timing_stands plans none.0 none.1 in
+        record { next = office; step = inr (rw at.1 ([], inl (idle, refl), refl)); stand = stands })
 
     edit_writes : {rows : RowsByKey} {side : TimingSide} → Stands Plan found.timing rows side
         → ListsFound Plan tables id found → (move : Move) (now : DbState)
@@ -115,7 +107,7 @@ module _ (is_honest : Type 0) (tables : Content) (id : ℕ) (clerk : List ℕ) (
           (to.make ∙ sym (settled_make here.timing_stands plans).make)) in
           record {
             next = it.next;
-            step = inr (subst (λ o. EditsOffice office id clerk edit o said it.next) (sym there) (
+            step = inr (rw there (
               revision_steps i.timing edits edit.commits,
               inr (
                 λ idle. let none = idle_asks here.timing_stands plans idle in busy none.0 none.1,

@@ -2,7 +2,7 @@
 use Rattle.std.proofs.Common.{◌≡◌, ℕ, Bool, true, false, cond, List, [], ◌∷◌, ◌++◌, map, Option, Some, None, Result, Ok, Err, refl, ap, subst, ◌∙◌}
 use Rattle.std.specs.FinMap.{FinMap, get, get-insert, same_map, nat_cmp-IsAntisymmetric}
 use Rattle.std.specs.{Cmp.nat_cmp_total, Cmp.tied_itself, List.AllByRecursion, Ordering.nat_cmp, Ordering.eq_by_cmp, Ordering.is_eq}
-use Rattle.signal_records.specs.{declared.record.Change.Change, declared.state.Stage.Stage}
+use Rattle.signal_records.specs.{declared.record.Change.Change}
 use Rattle.signal_records.specs.declared.state.Stage.TheVariants.{Transaction, Verify, Done}
 use Rattle.signal_rules.specs.declared.violation.Violation.{Violation}
 use Rattle.signal_values.specs.Words.{AreWords}
@@ -102,12 +102,6 @@ lines_keep clerk words last (step ∷ steps) side within sound is =
       | Err why ↦ λ line rest. absurd (let f : Err why ≡ Ok last = rest in cc)
     ] refl is
 
-opening_within : (stage : Stage) (steps : List Step) → AllByRecursion AsksWithin steps
-    → AllByRecursion AsksWithin (opening_steps stage ++ steps)
-opening_within Transaction steps all = all
-opening_within Verify steps all = (tt, (tt, all))
-opening_within Done steps all = (tt, all)
-
 committing_within : (commits : Bool) (violations : List Violation)
     → AllByRecursion AsksWithin (committing commits violations)
 committing_within true [] = (tt, (tt, (tt, tt)))
@@ -118,4 +112,10 @@ pub revision_within : (held : Option Draft) (edits : List Change) (commits : Boo
     → AllByRecursion AsksWithin (taking_up held ++ Edit edits ∷ committing commits violations)
 revision_within None edits commits violations within = (tt, (within, committing_within commits violations))
 revision_within (Some draft) edits commits violations within =
-    opening_within draft.stage _ (within, committing_within commits violations)
+    let all : AllByRecursion AsksWithin (Edit edits ∷ committing commits violations) = (within, committing_within commits violations) in
+    elim draft.stage as (λ stage. AllByRecursion AsksWithin
+    (opening_steps stage ++ Edit edits ∷ committing commits violations)) [
+      | Transaction ↦ all
+      | Verify ↦ (tt, (tt, all))
+      | Done ↦ (tt, all)
+    ]

@@ -36,10 +36,14 @@ AfterStep asked old found = StandsAfterStep old asked found
 
 -- ---- one command
 
--- The office answered a command, whichever sound office the tables stood for. Damaged is replied only where a row that the command reads is no record.
-pub record Answered (old : Content) (asked : Command) (given : Reply) (new : Content) : Type 0 where
-  pub step : AnswersAny old asked given new
-  pub damaged : given ≡ reply.Refused Damaged → MeetsDamage old asked
+-- The office answered what was asked, and Damaged is replied only where a row Meets damage.
+pub record WasAnswered (Answers : Content → Reply → Content → Type 0) (Meets : Content → Type 0) (old : Content) (given : Reply) (new : Content) : Type 0 where
+  pub step : Answers old given new
+  pub damaged : given ≡ reply.Refused Damaged → Meets old
+
+-- a command, whichever sound office the tables stood for
+abbrev pub Answered : Content → (asked : Command) → (given : Reply) → Content → Type 0
+Answered old asked given new = WasAnswered (λ tables. AnswersAny tables asked) (λ tables. MeetsDamage tables asked) old given new
 
 -- a reply that is taken as it is, or the fault of a refusal
 abbrev pub accept_reply : Reply → Result Reply Fault

@@ -1,29 +1,23 @@
--- A plan that is edited by a CSV file: what becomes of the tables, and what is reported.
-use Rattle.std.specs.Prelude.{◌≡◌, ◌⊎◌, ◌==◌, ℕ, Bool, true, if◌then◌else◌, List, Option, Some, None, Result, Ok, Err, ⊤}
-use Rattle.draft_core.specs.declared.timing.Reach.TheVariants as reach
+-- A plan that is edited by a CSV file: what becomes of the tables, and what is told of it.
+use Rattle.std.specs.Prelude.{◌≡◌, ◌⊎◌, ◌==◌, ℕ, Bool, true, if◌then◌else◌, List, Option, Some, None, Result, Ok, Err}
+use Rattle.std.specs.Result.{result_ok}
+use Rattle.draft_core.specs.declared.timing.Reach.TheVariants.{Plan}
 use Rattle.office_desk.specs.Asks.{IsReply, reply_to}
-use Rattle.office_desk.specs.Damage.{HasDamageIn}
-use Rattle.office_desk.specs.Editing.{AfterEdit}
-use Rattle.office_desk_timing.specs.Revising.{AnswersAnyEdit}
-use Rattle.office_desk_timing.specs.declared.revising.PlanEdit.{PlanEdit}
+use Rattle.office_desk.specs.{Damage.HasDamageIn, Editing.AfterEdit}
+use Rattle.office_desk_timing.specs.{Revising.AnswersAnyEdit, declared.revising.PlanEdit.PlanEdit}
 use Rattle.office_files.specs.Changes.{changes_of}
 use Rattle.office_machine.specs.declared.command.Command.TheVariants as command
-use Rattle.office_machine.specs.declared.refusal.Refusal.{Refusal}
-use Rattle.office_machine.specs.declared.refusal.Refusal.TheVariants.{Damaged}
-use Rattle.office_machine.specs.declared.reply.OpenDraft.{OpenDraft}
-use Rattle.office_machine.specs.declared.reply.Reply.{Reply}
+use Rattle.office_machine.specs.{declared.refusal.Refusal.Refusal, declared.reply.OpenDraft.OpenDraft, declared.reply.Reply.Reply, declared.reply.RunningTiming.RunningTiming}
 use Rattle.office_machine.specs.declared.reply.Reply.TheVariants as reply
-use Rattle.office_machine.specs.declared.reply.RunningTiming.{RunningTiming}
 use Rattle.office_tables_shelf.specs.Content.{Content}
+use Rattle.signal_office_commands.specs.Changing.{WasAnswered}
 use Rattle.signal_office_commands.specs.Refused.{IsUnread, fault_of}
-use Rattle.signal_office_commands.specs.declared.editing.Edited.{Edited}
-use Rattle.signal_office_commands.specs.declared.editing.Revised.{Revised}
+use Rattle.signal_office_commands.specs.{declared.editing.Edited.Edited, declared.editing.Revised.Revised}
 use Rattle.signal_office_commands.specs.declared.editing.Revised.TheVariants.{Same, Open, Committed}
 use Rattle.signal_office_faults.specs.declared.fault.Fault.{Fault}
 use Rattle.signal_office_faults.specs.declared.fault.Fault.TheVariants as fault
 use Rattle.signal_office_line.specs.declared.job.Edit.{Edit}
-use Rattle.signal_records.specs.declared.state.DbState.{DbState}
-use Rattle.signal_records.specs.declared.state.DbState.TheVariants.{Normal}
+use Rattle.signal_records.specs.{declared.state.DbState.DbState, declared.state.DbState.TheVariants.Normal}
 
 -- the edit of the plan that a file asks for: the changes that it spells
 pub record AsksFor (csv : List ℕ) (edit : Edit) (asked : PlanEdit) : Type 0 where
@@ -32,25 +26,19 @@ pub record AsksFor (csv : List ℕ) (edit : Edit) (asked : PlanEdit) : Type 0 wh
   pub commits : asked.commits ≡ edit.commit
 
 -- An edit of a plan was answered, whichever sound office the tables stood for. Damaged is replied only where a row of the plan is no record.
-pub record EditAnswered (id : ℕ) (clerk : List ℕ) (asked : PlanEdit) (old : Content) (given : Reply) (new : Content) : Type 0 where
-  pub step : AnswersAnyEdit old id clerk asked given new
-  pub damaged : given ≡ reply.Refused Damaged → HasDamageIn reach.Plan old id
-
--- a set that is shown as the running one is the reply of the office
-abbrev pub ShowsRunning : Content → ℕ → Option RunningTiming → Type 0
-ShowsRunning tables id None = ⊤
-ShowsRunning tables id (Some timing) = IsReply tables (command.Timing id) (reply.Timing timing)
+abbrev pub EditAnswered : (id : ℕ) → (clerk : List ℕ) → PlanEdit → Content → Reply → Content → Type 0
+EditAnswered id clerk asked = WasAnswered (λ tables. AnswersAnyEdit tables id clerk asked) (λ tables. HasDamageIn Plan tables id)
 
 -- a draft that was read is reported as open; a refused read gives its fault
 abbrev pub open_draft : Result OpenDraft Refusal → Result Revised Fault
 open_draft (Ok draft) = Ok (Open draft)
 open_draft (Err why) = Err (fault_of why)
 
--- the report on a transaction that moved to this state: in Normal, and only there, that the plan was committed; else the open draft as the office shows it, or
--- the fault of that read
+-- what is told of a transaction that went on to this state: in state Normal, and there alone, that the plan was committed, with what runs if that can be read; else that the draft is open, as the office
+-- shows it, or why it does not
 abbrev pub TellsMove : (id : ℕ) → DbState → Content → Result Revised Fault → Type 0
 TellsMove id Normal tables result =
-    (running : Option RunningTiming) × (result ≡ Ok (Committed running)) × ShowsRunning tables id running
+    (read : Result RunningTiming Refusal) × IsReply tables (command.Timing id) (reply_to (λ it. reply.Timing it) read) × (result ≡ Ok (Committed (result_ok read)))
 TellsMove id state tables result =
     (read : Result OpenDraft Refusal) × IsReply tables (command.Draft id) (reply_to (λ it. reply.Draft it) read) × (result ≡ open_draft read)
 
@@ -68,33 +56,21 @@ RevisesPlan asked edit old new result =
     ((given : Reply) × EditAnswered edit.id edit.clerk asked old given new × TellsEdit edit.id given new result)
     ⊎ ((result ≡ Err fault.Memory) × (new ≡ old))
 
--- what is reported is given as it is; but with `explain` another fault may be given that explains it
-abbrev pub IsExplained : (told : Result Revised Fault) → (explain : Bool) → (result : Result Revised Fault) → Type 0
-IsExplained (Err why) true result = (explained : Fault) × (result ≡ Err explained)
-IsExplained told explain result = result ≡ told
-
--- an edit is made, and what became of the plan is reported, with the fault explained if asked for
-abbrev pub EditsNow : PlanEdit → Edit → Content → Content → Result Revised Fault → Type 0
-EditsNow asked edit old new result = (told : Result Revised Fault) × RevisesPlan asked edit old new told × IsExplained told edit.explain result
-
--- what became of the plan is given with the set that ran before and with notes; a fault as it is
-abbrev pub IsEdited : Result Revised Fault → Result Edited Fault → Type 0
-IsEdited (Ok revised) result = (edited : Edited) × (result ≡ Ok edited) × (edited.revised ≡ revised)
-IsEdited (Err why) result = result ≡ Err why
+-- what became of the plan is given with the set that ran before and with notes; a fault is told as it is, or where that is asked for explained
+abbrev pub TellsEdited : (told : Result Revised Fault) → (explain : Bool) → Result Edited Fault → Type 0
+TellsEdited (Ok revised) explain result = (edited : Edited) × (result ≡ Ok edited) × (edited.revised ≡ revised)
+TellsEdited (Err why) true result = (explained : Fault) × (result ≡ Err explained)
+TellsEdited (Err why) explain result = result ≡ Err why
 
 -- an edit is made, and what became of the plan is given with what ran before
 abbrev pub EditsFrom : PlanEdit → Edit → Content → Content → Result Edited Fault → Type 0
-EditsFrom asked edit old new result = (told : Result Revised Fault) × EditsNow asked edit old new told × IsEdited told result
+EditsFrom asked edit old new result = (told : Result Revised Fault) × RevisesPlan asked edit old new told × TellsEdited told edit.explain result
 
--- the set that runs, if its revision is the one asked for or none is; else the fault has its revision
-abbrev pub check_revision : Option ℕ → RunningTiming → Result RunningTiming Fault
-check_revision None before = Ok before
-check_revision (Some revision) before = if before.revision == revision then Ok before else Err (fault.OtherRevision before.revision)
-
--- the set that runs before an edit, of the revision that is asked for; or the fault of another revision, or of a refused read
+-- the set that runs before an edit, where its revision is the one that is asked for, or none is; or the fault of another revision, or of a refused read
 abbrev pub before_edit : Option ℕ → Result RunningTiming Refusal → Result RunningTiming Fault
-before_edit asked (Ok before) = check_revision asked before
 before_edit asked (Err why) = Err (fault_of why)
+before_edit None (Ok before) = Ok before
+before_edit (Some revision) (Ok before) = if before.revision == revision then Ok before else Err (fault.OtherRevision before.revision)
 
 -- the set that runs before an edit is what the office shows, if that has the revision that the edit asks for; else there is a fault
 abbrev pub ShowsBefore : Edit → Content → Result RunningTiming Fault → Type 0

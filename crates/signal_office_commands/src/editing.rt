@@ -5,7 +5,7 @@ ghost use Rattle.office_desk.specs.Asks.{OnlyLooks};
 ghost use Rattle.office_files.specs.Changes.{changes_of};
 ghost use Rattle.signal_office_commands.specs.Changing.{ChangesShelf};
 ghost use Rattle.office_desk.specs.Editing.{AfterEdit};
-ghost use Rattle.signal_office_commands.specs.Editing.{AfterEditing, AsksFor, Edits, EditsFound, EditsFrom, EditsNow, RevisesPlan, ShowsBefore, ShowsRunning, TellsEdit, TellsMove, before_edit, check_revision, open_draft};
+ghost use Rattle.signal_office_commands.specs.Editing.{AfterEditing, AsksFor, Edits, EditsFrom, RevisesPlan, TellsEdit, TellsMove, before_edit, open_draft};
 ghost use Rattle.signal_office_commands.specs.Refused.{IsUnread};
 
 use crate::edit_notes::edit_notes;
@@ -58,57 +58,22 @@ fn plan_edit(alloc: Global, edit: &Edit<'_>, csv: &[u8]) -> Result<PlanEdit, Fau
     })
 }
 
-/// The set that runs before an edit, if its revision is the one asked for or none is; else the
-/// fault is OtherRevision.
-fn check_revision(asked: Option<u32>, before: RunningTiming) -> Result<RunningTiming, Fault>
-    ensures { result ≡ check_revision asked before }
-{
-    let found = before.revision.get();
-    match asked {
-        Some(revision) if found != revision => Err(Fault::OtherRevision(found)),
-        _ => Ok(before),
-    }
-}
-
-/// The set that runs before an edit, if its revision is the one asked for or none is; else the
-/// fault of another revision, or of the read.
+/// The set that runs before an edit, if its revision is the one that is asked for, or none is; or
+/// the fault of another revision, or of the read.
 fn before_edit(
     asked: Option<u32>,
     read: Result<RunningTiming, Refusal>,
 ) -> Result<RunningTiming, Fault>
     ensures { result ≡ before_edit asked read }
 {
-    match read {
-        Ok(before) => check_revision(asked, before),
-        Err(why) => Err(fault_of(why)),
-    }
-}
-
-/// Reads the set that runs before an edit. The fault is OtherRevision if the edit asks for another
-/// revision, or that of the read.
-fn read_before<S: Shelf>(
-    alloc: Global,
-    office: &mut Office<S>,
-    edit: &Edit<'_>,
-) -> Result<RunningTiming, Fault>
-    ensures { OnlyLooks S.Shelf office.old office.new
-        (λ tables. ShowsBefore edit.now tables result) }
-{
-    before_edit(edit.revision, office.timing(alloc, edit.id))
-}
-
-/// The set that runs after a commit; `None` if the read is refused.
-fn read_running<S: Shelf>(
-    alloc: Global,
-    office: &mut Office<S>,
-    edit: &Edit<'_>,
-) -> Option<RunningTiming>
-    ensures { OnlyLooks S.Shelf office.old office.new
-        (λ tables. ShowsRunning tables edit.now.id result) }
-{
-    match office.timing(alloc, edit.id) {
-        Ok(timing) => Some(timing),
-        Err(_) => None,
+    let before = match read {
+        Ok(before) => before,
+        Err(why) => return Err(fault_of(why)),
+    };
+    let found = before.revision.get();
+    match asked {
+        Some(revision) if found != revision => Err(Fault::OtherRevision(found)),
+        _ => Ok(before),
     }
 }
 
@@ -134,7 +99,10 @@ fn read_moved<S: Shelf>(
         (λ tables. TellsMove edit.now.id state tables result) }
 {
     match state {
-        DbState::Normal => Ok(Revised::Committed(read_running(alloc, office, edit))),
+        DbState::Normal => {
+            let running = office.timing(alloc, edit.id).ok();
+            Ok(Revised::Committed(running))
+        }
         DbState::Transaction | DbState::Verify | DbState::Done => {
             open_draft(office.draft(alloc, edit.id))
         }
@@ -176,25 +144,8 @@ fn revise_plan<S: Shelf>(
     revised_by(alloc, office, edit, &reply)
 }
 
-/// Revises a plan as an edit asks, and gives what became of it; or the fault, explained if the edit
-/// asks for that.
-fn edit_now<S: Shelf>(
-    alloc: Global,
-    office: &mut Office<S>,
-    edit: &Edit<'_>,
-    asked: &PlanEdit,
-) -> Result<Revised, Fault>
-    ensures { ChangesShelf S.Shelf office.old office.new
-        (λ old new. EditsNow asked.now edit.now old new result)
-        (AfterEdit edit.now.id edit.now.clerk asked.now) }
-{
-    match revise_plan(alloc, office, edit, asked) {
-        Ok(revised) => Ok(revised),
-        Err(why) => Err(refused_edit(alloc, office, edit, why)),
-    }
-}
-
-/// Edits a plan whose committed set is `before`, and makes notes on what became of it.
+/// Edits a plan of which this set runs, and makes notes on what became of it; or tells the fault,
+/// explained if the edit asks for that.
 fn edit_from<S: Shelf>(
     alloc: Global,
     office: &mut Office<S>,
@@ -207,7 +158,7 @@ fn edit_from<S: Shelf>(
         (λ old new. EditsFrom asked.now edit.now old new result)
         (AfterEdit edit.now.id edit.now.clerk asked.now) }
 {
-    match edit_now(alloc, office, edit, asked) {
+    match revise_plan(alloc, office, edit, asked) {
         Ok(revised) => {
             let notes = edit_notes(alloc, office, edit, csv, &before.rows, &revised);
             Ok(Edited {
@@ -216,25 +167,7 @@ fn edit_from<S: Shelf>(
                 notes,
             })
         }
-        Err(why) => Err(why),
-    }
-}
-
-/// Edits a plan if its committed revision is the one that the edit asks for, or it asks for none.
-fn edit_found<S: Shelf>(
-    alloc: Global,
-    office: &mut Office<S>,
-    edit: &Edit<'_>,
-    csv: &[u8],
-    asked: &PlanEdit,
-) -> Result<Edited, Fault>
-    ensures { ChangesShelf S.Shelf office.old office.new
-        (λ old new. EditsFound asked.now edit.now old new result)
-        (AfterEdit edit.now.id edit.now.clerk asked.now) }
-{
-    match read_before(alloc, office, edit) {
-        Ok(before) => edit_from(alloc, office, edit, csv, asked, before),
-        Err(why) => Err(why),
+        Err(why) => Err(refused_edit(alloc, office, edit, why)),
     }
 }
 
@@ -252,5 +185,8 @@ pub fn edit<S: Shelf>(
         (λ old new. Edits csv.now edit.now old new result) (AfterEditing csv.now edit.now) }
 {
     let asked = plan_edit(alloc, edit, csv)?;
-    edit_found(alloc, office, edit, csv, &asked)
+    match before_edit(edit.revision, office.timing(alloc, edit.id)) {
+        Ok(before) => edit_from(alloc, office, edit, csv, &asked, before),
+        Err(why) => Err(why),
+    }
 }
