@@ -1,5 +1,5 @@
 -- What the commands and queries of the register answer is a step of the office.
-use Rattle.std.proofs.Common.{◌≡◌, ◌≤◌, ℕ, Bool, true, false, List, [], ◌∷◌, map, Option, Some, None, is_some, arith, refl, ap, sym, subst, subst₂, ◌∙◌, inl, inr}
+use Rattle.std.proofs.Common.{◌≡◌, ◌++◌, ◌≤◌, ℕ, Bool, true, false, List, [], ◌∷◌, map, Option, Some, None, is_some, arith, refl, ap, sym, subst, subst₂, ◌∙◌, inl, inr}
 use Rattle.std.specs.{Prelude.IsSome, Option.option_map, FinMap.get}
 use Rattle.cabinet_core.specs.declared.{command.RecordCommand.RecordCommand, record.CabinetView.CabinetView, refusal.CabinetRefusal.CabinetRefusal}
 use Rattle.cabinet_core.specs.Cabinet.{Line, added as added_line, same as same_line, refused as refused_line}
@@ -23,12 +23,12 @@ use Rattle.office_desk.proofs.Writes.{record_writes}
 
 -- ---- whether the intersection is there
 
-same_there : (o : Option Intersection) → is_some (option_map row_of o) ≡ is_some o
-same_there None = refl
-same_there (Some i) = refl
+same_there : {X Y : Type 0} (f : X → Y) (o : Option X) → is_some (option_map f o) ≡ is_some o
+same_there f None = refl
+same_there f (Some x) = refl
 
 pub known_read : (tables : Content) (id : ℕ) (row : Option IntersectionRow) → ReadsIntersection tables id row → IsKnownIn tables (Some id) (is_some row)
-known_read tables id row reads office stands = ap (λ (o : Option IntersectionRow). is_some o) (row_read tables office id row stands.stand reads) ∙ same_there (get office.intersections id)
+known_read tables id row reads office stands = ap (λ (o : Option IntersectionRow). is_some o) (row_read tables office id row stands.stand reads) ∙ same_there row_of (get office.intersections id)
 
 -- whatever its register holds
 pub same_known : (office : Office) (r : Register) (about : Option ℕ) → is_known office about ≡ is_known (record office { register = r }) about
@@ -89,11 +89,7 @@ recorded office c = go (cabinet_of c)
 
 -- a row was read where one stands
 pub row_stands : (tables : Content) (id : ℕ) (row : Option IntersectionRow) → ReadsIntersection tables id row → is_some row ≡ is_some (get tables.intersection (intersection_key id))
-row_stands tables id row reads = go row ∙ sym (ap (λ (o : Option (List Cell)). is_some o) reads)
-  where
-    go : (o : Option IntersectionRow) → is_some o ≡ is_some (option_map intersection_columns o)
-    go None = refl
-    go (Some i) = refl
+row_stands tables id row reads = sym (same_there intersection_columns row) ∙ sym (ap (λ (o : Option (List Cell)). is_some o) reads)
 
 -- a row of the register that is no record, of an intersection that is there
 pub meets_record : (tables : Content) (c : RecordCommand) (about : Option ℕ) → TellsAbout tables about true → MeetsRecordDamage tables c → MeetsCabinetDamage tables c about
@@ -124,11 +120,11 @@ refused_named c why said is named =
 
 -- a record that was taken after no other is decided
 pub record_decides : (is_honest : Type 0) (tables : Content) (c : RecordCommand) (t : Taken) (before rows : List RowChange) (decided : Decided) → before ≡ []
-    → decided.reply ≡ reply_taken t → decided.changes.items ≡ rows → (is_honest → TakesInTurn tables before c t rows) → TakesWithin before c t rows
+    → decided.reply ≡ reply_taken t → decided.changes.items ≡ rows → (is_honest → TakesInTurn tables before c t (before ++ rows)) → TakesWithin before c t (before ++ rows)
     → IsDecision is_honest tables (command.Record c) decided
 record_decides is_honest tables c t before rows decided none is list takes within =
-    let none_before : TakesWithin [] c t rows = subst (λ first. TakesWithin first c t rows) none within in
-    let now = λ (honest : is_honest). subst (λ first. TakesInTurn tables first c t rows) none (takes honest) in
+    let none_before : TakesWithin [] c t rows = subst (λ first. TakesWithin first c t (first ++ rows)) none within in
+    let now = λ (honest : is_honest). subst (λ first. TakesInTurn tables first c t (first ++ rows)) none (takes honest) in
     record {
       step = λ honest office stands.
           let took = (now honest).step office stands office.register (register_of tables office stands) in

@@ -1,25 +1,22 @@
 -- Records that are tried in turn.
-use Rattle.std.proofs.Common.{◌≡◌, ◌+◌, ◌++◌, ℕ, true, List, [], ◌∷◌, drop, refl, ap, sym, subst, ◌∙◌, inl, inr, append_assoc}
-use Rattle.std.specs.Prelude.{Result, Ok, Err}
+use Rattle.std.proofs.Common.{◌≡◌, ◌+◌, ◌++◌, ℕ, List, [], ◌∷◌, drop, refl, ap, sym, ◌∙◌, inl, inr, append_assoc}
 use Rattle.cabinet_core.specs.Register.{Register}
 use Rattle.cabinet_core.specs.declared.{record.Delivery.Delivery, record.UsedLine.UsedLine, command.RecordCommand.RecordCommand, refusal.CabinetRefusal.CabinetRefusal}
 use Rattle.cabinet_core.specs.declared.command.RecordCommand.TheVariants as asks
 use Rattle.cabinet_core.specs.declared.refusal.CabinetRefusal.TheVariants as cabinet
 use Rattle.office_tables_shelf.specs.{Change.changed_by, Content.Content, declared.rows.RowChange.RowChange, RegisterStands.RegisterStandsSound}
-use Rattle.office_tables_shelf.specs.declared.shelf.ShelfFault.{ShelfFault}
 use Rattle.office_tables_shelf.specs.Places as place
-use Rattle.office_tables_decisions.specs.Reads.{Reports}
 use Rattle.office_tables_shelf.specs.Places.{DamagedAt, Place}
 use Rattle.office_desk_cabinet.specs.Registers.{held_in}
 use Rattle.office_desk_cabinet.proofs.Found.{stands_at}
 use Rattle.office_tables_decisions.specs.Damage.{MeetsRecordDamage}
-use Rattle.office_desk.specs.Checking.{ChecksRecord, HasDamageThere, ReadsThere, TellsThere, checked_by, checked_from, place_told, there_in, told_there}
-use Rattle.office_desk.specs.{Damage.MeetsCabinetDamage, Recording.TellsAbout, StandFor.StandForSound, Taking.office_with, Taking.register_with}
+use Rattle.office_desk.specs.Checking.{ChecksRecord, ReadsThere, checked_by, checked_from, place_told, there_in, told_there}
+use Rattle.office_desk.specs.{StandFor.StandForSound, Taking.office_with, Taking.register_with}
 use Rattle.office_desk.specs.declared.{checking.Checked.Checked, recording.Taken.Taken, there.There.There}
 use Rattle.office_desk.specs.declared.there.There.TheVariants as there
 use Rattle.office_desk.proofs.Imports.{Follows, IsNext}
-use Rattle.office_desk.proofs.Recorded.{meets_record, register_of}
-use Rattle.office_machine.specs.{Office.Office, Step.cabinet_of}
+use Rattle.office_desk.proofs.Recorded.{register_of}
+use Rattle.office_machine.specs.Office.{Office}
 use Rattle.office_machine.specs.declared.refusal.Refusal.{Refusal}
 use Rattle.office_machine.specs.declared.refusal.Refusal.TheVariants as office
 
@@ -32,7 +29,7 @@ there_read stored pending at it r read stands =
     read.2 ∙ ap (told_there at) (stands_at (changed_by stored pending) r stands at read.0 read.1)
 
 -- a damaged row there is one that the record reads
-damage_there : (tables : Content) (c : RecordCommand) (why : CabinetRefusal) → DamagedAt tables (place_told c why) → MeetsRecordDamage tables c
+pub damage_there : (tables : Content) (c : RecordCommand) (why : CabinetRefusal) → DamagedAt tables (place_told c why) → MeetsRecordDamage tables c
 damage_there tables (asks.Inspect id asked) why damage = damage
 damage_there tables (asks.OpenOrder id asked) why damage = damage
 damage_there tables (asks.UsePart id asked) cabinet.LineDiffers damage = inl damage
@@ -41,13 +38,6 @@ damage_there tables (asks.UsePart id asked) why damage = inr (inl damage)
 damage_there tables (asks.CloseOrder id number asked) why damage = damage
 damage_there tables (asks.Receive asked) cabinet.DeliveryDiffers damage = inl damage
 damage_there tables (asks.Receive asked) why damage = inr damage
-
--- a place that is known by the record and the refusal
-pub damaged_place : (tables : Content) (asked at : Place) → asked ≡ at → DamagedAt tables at → DamagedAt tables asked
-damaged_place tables asked at same damage = subst (DamagedAt tables) (sym same) damage
-
-pub found_place : (stored : Content) (pending : List RowChange) (asked at : Place) (it : There) → asked ≡ at → ReadsThere stored pending at it → ReadsThere stored pending asked it
-found_place stored pending asked at it same reads = subst (λ (p : Place). ReadsThere stored pending p it) (sym same) reads
 
 -- for other refusals it is the order, or what is on hand
 pub other_used : (id : ℕ) (line : UsedLine) (why : CabinetRefusal) → (why ≡ cabinet.LineDiffers → ⊥) → (why ≡ cabinet.NoStock → ⊥)
@@ -61,27 +51,11 @@ pub other_received : (asked : Delivery) (why : CabinetRefusal) → (why ≡ cabi
 other_received asked cabinet.DeliveryDiffers differs = absurd (differs refl)
 other_received asked why differs = refl
 
--- what is told of it
-pub tells_read : (honest : Type 0) (stored : Content) (pending : List RowChange) (c : RecordCommand) (why : CabinetRefusal) (refusal : Refusal)
-    (result : Result There ShelfFault) → refusal ≡ office.Cabinet why
-    → Reports honest result (ReadsThere stored pending (place_told c why)) (DamagedAt stored (place_told c why))
-    → Reports honest result (TellsThere stored pending c refusal) (HasDamageThere stored c refusal)
-tells_read honest stored pending c why refusal (Ok it) is reads = λ h r stands.
-    there_read stored pending (place_told c why) it r (reads h) stands ∙ ap (there_in r c) (sym is)
-tells_read honest stored pending c why refusal (Err fault) is damage =
-    λ damaged h. record { why = why; told = is; damage = damage_there stored c why (damage damaged h) }
-
+-- another refusal tells of nothing that is there
 pub nothing_told : (r : Register) (c : RecordCommand) (refusal : Refusal) → ((why : CabinetRefusal) → refusal ≡ office.Cabinet why → ⊥)
     → there.Nothing ≡ there_in r c refusal
 nothing_told r c (office.Cabinet why) never = absurd (never why refl)
 nothing_told r c refusal never = refl
-
--- ---- damaged rows
-
--- a refusal of the register came where the intersection is there, and what is told with it meets damage
-pub damage_told : (tables : Content) (c : RecordCommand) (refusal : Refusal) → ((why : CabinetRefusal) → refusal ≡ office.Cabinet why → TellsAbout tables (cabinet_of c) true)
-    → HasDamageThere tables c refusal → MeetsCabinetDamage tables c (cabinet_of c)
-damage_told tables c refusal there damage = meets_record tables c (cabinet_of c) (there damage.why damage.told) damage.damage
 
 -- ---- one after the other
 

@@ -14,7 +14,7 @@ use Rattle.office_desk.specs.declared.recording.Taken.{Taken}
 use Rattle.office_desk.specs.declared.recording.Taken.TheVariants as taken
 use Rattle.office_desk.specs.declared.there.There.{There}
 use Rattle.office_desk.specs.declared.there.There.TheVariants as there
-use Rattle.office_desk.specs.{Damage.MeetsRecordDamage, StandFor.StandForSound}
+use Rattle.office_desk.specs.StandFor.{StandForSound}
 use Rattle.office_machine.specs.Office.{Office}
 use Rattle.office_machine.specs.declared.refusal.Refusal.{Refusal}
 use Rattle.office_machine.specs.declared.refusal.Refusal.TheVariants.{Cabinet as OfRegister}
@@ -60,16 +60,6 @@ there_in r c why = there.Nothing
 -- what is told of a place is read from the stored rows once the pending ones are written
 abbrev pub ReadsThere : Content → List RowChange → (at : Place) → There → Type 0
 ReadsThere stored pending at it = (found : Option (RecordAt at)) × ReadsAt (changed_by stored pending) at found × (it ≡ told_there at found)
-
--- a refusal of the register, and a row that the record reads is no record
-pub record HasDamageThere (tables : Content) (c : RecordCommand) (refusal : Refusal) : Type 0 where
-  pub why : CabinetRefusal
-  pub told : refusal ≡ OfRegister why
-  pub damage : MeetsRecordDamage tables c
-
--- what is told with a refused record is what the register holds, whichever sound one the stored tables stand for once the pending rows are written
-abbrev pub TellsThere : Content → List RowChange → RecordCommand → Refusal → There → Type 0
-TellsThere stored pending c why it = (r : Register) → RegisterStandsSound (changed_by stored pending) r → it ≡ there_in r c why
 
 -- ---- records in turn
 

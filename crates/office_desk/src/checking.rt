@@ -2,7 +2,7 @@
 //! stored.
 ghost use Rattle.std.specs.Prelude.{◌≡◌, ◌≢◌, ◌++◌, [], ◌∷◌, IfOk, OnOk};
 ghost use Rattle.office_tables_decisions.specs.Reads.{OnlyReads, Reports};
-ghost use Rattle.office_desk.specs.Checking.{Checks, ChecksRecord, HasDamageThere, TellsThere};
+ghost use Rattle.office_desk.specs.Checking.{Checks, ChecksRecord};
 ghost use Rattle.office_desk.specs.Damage.{MeetsCabinetDamage, MeetsImportDamage};
 ghost use Rattle.office_desk.specs.Recording.{AreFound};
 ghost use Rattle.office_machine.specs.Step.{cabinet_of as about_of};
@@ -29,26 +29,6 @@ pub enum Checked {
     Refused { refusal: Refusal, there: There },
 }
 
-/// What the register holds, once the pending rows are written, where a record is refused. It is
-/// nothing where the refusal is not one of the register.
-fn there_of<S: Shelf>(
-    shelf: &mut S,
-    alloc: Global,
-    pending: &Pending,
-    command: &RecordCommand,
-    refusal: Refusal,
-) -> Result<There, ShelfFault>
-    ensures there { Reports (S.is_honest shelf.new) result
-        (TellsThere (S.content shelf.old) pending.now command.now refusal)
-        (HasDamageThere (S.content shelf.old) command.now refusal) }
-    ensures reads { OnlyReads S.Shelf ⊥ result shelf.old shelf.new }
-{
-    match refusal {
-        Refusal::Cabinet(why) => what_is_there(shelf, alloc, pending, command, why),
-        _ => Ok(There::Nothing),
-    }
-}
-
 /// Tries a record after those whose rows are pending, and gives these rows back with its own behind
 /// them. The row of an intersection in `found` is not read again.
 fn check_record<S: Shelf>(
@@ -70,10 +50,16 @@ fn check_record<S: Shelf>(
     match taken {
         Taken::Added => Ok((Checked::Added, next)),
         Taken::Same => Ok((Checked::Same, next)),
-        Taken::Refused(refusal) => {
-            let there = there_of(shelf, alloc, &next, command, refusal)?;
-            Ok((Checked::Refused { refusal, there }, next))
-        }
+        Taken::Refused(refusal) => match refusal {
+            Refusal::Cabinet(why) => {
+                let there = what_is_there(shelf, alloc, &next, command, why)?;
+                Ok((Checked::Refused { refusal, there }, next))
+            }
+            _ => {
+                let there = There::Nothing;
+                Ok((Checked::Refused { refusal, there }, next))
+            }
+        },
     }
 }
 

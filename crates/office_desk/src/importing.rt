@@ -42,8 +42,9 @@ pub(crate) fn take_record<S: Shelf>(
     if !is_found(shelf, alloc, found, cabinet_of(command))? {
         return Ok((Taken::Refused(Refusal::UnknownIntersection), pending));
     }
-    let taken = take_known(shelf, alloc, pending, command)?;
-    Ok(taken)
+    let (taken, rows) = take_known(shelf, alloc, &pending, command)?;
+    let next = pending.with(rows)?;
+    Ok((taken, next))
 }
 
 /// Decides an import: its records in turn, each after those before it. The first that is refused

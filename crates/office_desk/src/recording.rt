@@ -1,5 +1,5 @@
 //! A record of the register is taken, after those whose rows are pending.
-ghost use Rattle.std.specs.Prelude.{◌≡◌, true, false, Ok, IfOk, IsSome, OnErr, [], ⊤};
+ghost use Rattle.std.specs.Prelude.{◌≡◌, ◌++◌, true, false, Ok, IfOk, IsSome, OnErr, [], ⊤};
 ghost use Rattle.office_tables_decisions.specs.Reads.{OnlyReads, Reports};
 ghost use Rattle.office_desk.specs.Damage.{MeetsCabinetDamage};
 ghost use Rattle.office_desk.specs.Deciding.{Decides};
@@ -14,6 +14,7 @@ use office_machine::command::Command;
 use office_machine::refusal::Refusal;
 use office_machine::reply::Reply;
 use office_tables_decisions::decided::Decided;
+use office_tables_shelf::rows::RowChange;
 use office_tables_shelf::shelf::{Shelf, ShelfFault};
 use signal_records::InterId;
 use std::alloc::Global;
@@ -73,30 +74,31 @@ fn register_refusal(refusal: CabinetRefusal) -> Refusal
     }
 }
 
-/// Takes a record after those whose rows are pending, and gives these rows back with its own behind
-/// them; nothing is written. The caller tests that the intersection is there.
+/// Takes a record after those whose rows are pending, and gives its own rows; nothing is written.
+/// The caller tests that the intersection is there.
 pub(crate) fn take_known<S: Shelf>(
     shelf: &mut S,
     alloc: Global,
-    pending: Pending,
+    pending: &Pending,
     command: &RecordCommand,
-) -> Result<(Taken, Pending), ShelfFault>
+) -> Result<(Taken, Vec<RowChange>), ShelfFault>
     requires { S.is_honest shelf.old →
         TellsIntersection (S.content shelf.old) (about_of command.now) true }
     ensures takes { Reports (S.is_honest shelf.new) result
-        (λ taken. TakesInTurn (S.content shelf.old) pending command.now taken.0 taken.1)
+        (λ taken. TakesInTurn (S.content shelf.old) pending.now command.now taken.0
+        (pending.now ++ taken.1.items))
         (MeetsCabinetDamage (S.content shelf.old) command.now (about_of command.now)) }
-    ensures within { IfOk result (λ taken. TakesWithin pending command.now taken.0 taken.1) }
-    ensures reads { OnlyReads S.Shelf (pending ≡ []) result shelf.old shelf.new }
+    ensures within { IfOk result (λ taken.
+        TakesWithin pending.now command.now taken.0 (pending.now ++ taken.1.items)) }
+    ensures reads { OnlyReads S.Shelf (pending.now ≡ []) result shelf.old shelf.new }
 {
-    let told = decide_record(shelf, alloc, &pending, command)?;
+    let told = decide_record(shelf, alloc, pending, command)?;
     match told {
-        Registered::Added(rows) => {
-            let next = pending.with(rows)?;
-            Ok((Taken::Added, next))
+        Registered::Added(rows) => Ok((Taken::Added, rows)),
+        Registered::Same => Ok((Taken::Same, Vec::new(alloc))),
+        Registered::Refused(refusal) => {
+            Ok((Taken::Refused(register_refusal(refusal)), Vec::new(alloc)))
         }
-        Registered::Same => Ok((Taken::Same, pending)),
-        Registered::Refused(refusal) => Ok((Taken::Refused(register_refusal(refusal)), pending)),
     }
 }
 
@@ -126,8 +128,7 @@ pub(crate) fn decide_record_command<S: Shelf>(
         return Ok(Decided::from_refusal(alloc, Refusal::UnknownIntersection));
     }
     let pending = Pending::new(alloc);
-    let (taken, next) = take_known(shelf, alloc, pending, command)?;
+    let (taken, changes) = take_known(shelf, alloc, &pending, command)?;
     let reply = reply_to(taken);
-    let changes = next.into_changes();
     Ok(Decided { reply, changes })
 }

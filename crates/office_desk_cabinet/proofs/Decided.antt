@@ -125,3 +125,8 @@ decided about honest stored pending command there decision (Err NoMemory) read s
     record { step = λ h. tt; news = tt; leaves = tt; writes = tt; named = tt }
 decided about honest stored pending command there decision (Err why) read says makes same_rows tells fault =
     absurd cc
+
+-- of a command that is known by its kind
+pub decided_as : (honest : Type 0) (stored : Content) (pending : List RowChange) (asked command : RecordCommand) (result : Result Registered ShelfFault) → asked ≡ command
+    → DecidesRecord honest stored pending command result → DecidesRecord honest stored pending asked result
+decided_as honest stored pending asked command result is = subst (λ c. DecidesRecord honest stored pending c result) (sym is)

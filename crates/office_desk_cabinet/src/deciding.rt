@@ -4,10 +4,12 @@ ghost use Rattle.office_tables_decisions.specs.Reads.{OnlyReads};
 ghost use Rattle.office_desk_cabinet.specs.Decides.{DecidesRecord};
 
 use crate::pending::Pending;
-use crate::records::{decide_close_order, decide_inspect, decide_open_order};
 use crate::registered::Registered;
+use crate::rows::report_record;
+use crate::standing::record_at;
 use crate::stocking::{decide_receive, decide_use_part};
-use cabinet_core::RecordCommand;
+use cabinet_core::{RecordCommand, close_order, inspect, open_order};
+use office_tables_shelf::register::{RegisterKey, RegisterRecord};
 use office_tables_shelf::shelf::{Shelf, ShelfFault};
 use std::alloc::Global;
 
@@ -25,14 +27,27 @@ pub fn decide_record<S: Shelf>(
 {
     match command {
         RecordCommand::Inspect { id, inspection } => {
-            decide_inspect(shelf, alloc, pending, *id, inspection)
+            let key = RegisterKey::Inspection(*id, inspection.number);
+            let found = record_at(shelf, alloc, pending, &key)?;
+            let there = RegisterRecord::inspection(found);
+            let _number = id.get();
+            let decision = inspect(alloc, &there, inspection);
+            report_record(alloc, Some(*id), decision)
         }
         RecordCommand::OpenOrder { id, opening } => {
-            decide_open_order(shelf, alloc, pending, *id, opening)
+            let key = RegisterKey::Order(*id, opening.number);
+            let found = record_at(shelf, alloc, pending, &key)?;
+            let there = RegisterRecord::order(found);
+            let decision = open_order(alloc, &there, opening);
+            report_record(alloc, Some(*id), decision)
         }
         RecordCommand::UsePart { id, line } => decide_use_part(shelf, alloc, pending, *id, line),
         RecordCommand::CloseOrder { id, order, closing } => {
-            decide_close_order(shelf, alloc, pending, *id, *order, closing)
+            let key = RegisterKey::Order(*id, *order);
+            let found = record_at(shelf, alloc, pending, &key)?;
+            let there = RegisterRecord::order(found);
+            let decision = close_order(alloc, &there, closing);
+            report_record(alloc, Some(*id), decision)
         }
         RecordCommand::Receive { delivery } => decide_receive(shelf, alloc, pending, delivery),
     }

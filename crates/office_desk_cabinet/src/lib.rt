@@ -3,7 +3,6 @@
 
 mod deciding;
 mod pending;
-mod records;
 mod registered;
 mod rows;
 mod showing;

@@ -1,7 +1,7 @@
-use Rattle.std.proofs.Common.{◌∙◌, Bool, Ok, ap, subst, sym, true}
+use Rattle.std.proofs.Common.{◌∙◌, Bool, Ok, ap, subst, subst₂, sym, true}
 use Rattle.office_machine.specs.Step.{cabinet_of}
 use Rattle.office_tables_decisions.proofs.ReadLemmas.{handed_reports, handed_told, told_on}
-use Rattle.office_desk.specs.Recording.{TellsIntersection}
+use Rattle.office_desk.specs.{Recording.TellsIntersection, Taking.TakesInTurn, Taking.TakesWithin}
 use Rattle.office_desk.proofs.{FoundAgain.not_told, FoundAgain.told_there, Recorded.about_tells, Taking.takes_unknown, Taking.within_unknown}
 use Rattle.office_desk.proofs.importing.take_record.Goals as goal
 
@@ -33,7 +33,12 @@ take_known-requires g c = λ honest.
 
 pub returns-clause-takes : goal.returns-clause-takes
 returns-clause-takes g c = λ honest.
-    rw (c.is_found.ensures.reads.kept.same_content (c.take_known.ensures.reads.kept.honest_before honest)) at (c.in_ok-taken.ensures.takes honest)
+    subst₂ (λ tables rows. TakesInTurn tables c.args.pending c.args.command.now c.in_ok-taken.taken rows)
+    (c.is_found.ensures.reads.kept.same_content (c.take_known.ensures.reads.kept.honest_before honest)) (sym c.in_ok-next.ensures) (c.in_ok-taken.ensures.takes honest)
+
+pub returns-clause-within : goal.returns-clause-within
+returns-clause-within g c =
+    subst (λ rows. TakesWithin c.args.pending c.args.command.now c.in_ok-taken.taken rows) (sym c.in_ok-next.ensures) c.in_ok-taken.ensures.within
 
 pub returns-clause-found : goal.returns-clause-found
 returns-clause-found g c = λ honest. c.in_ok-is_found.ensures.found (c.take_known.ensures.reads.kept.honest_before honest)

@@ -28,8 +28,8 @@ take_known-requires g c = λ honest.
 
 pub returns-clause-decides : goal.returns-clause-decides
 returns-clause-decides g c =
-    record_decides _ (g.S.Shelf.content c.args.shelf.now) _ c.in_ok-taken.taken c.new-pending.result c.in_ok-taken.next _ c.new-pending.ensures
-    c.reply_to-reply.ensures c.into_changes-changes.ensures
+    record_decides _ (g.S.Shelf.content c.args.shelf.now) _ c.in_ok-taken.taken c.new-pending.result c.in_ok-taken.changes.items _ c.new-pending.ensures
+    c.reply_to-reply.ensures refl
     (λ honest. rw (c.is_known.ensures.reads.kept.same_content (c.take_known.ensures.reads.kept.honest_before honest)) at (c.in_ok-taken.ensures.takes honest))
     c.in_ok-taken.ensures.within
 
