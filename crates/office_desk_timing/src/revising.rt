@@ -74,7 +74,7 @@ fn asks_nothing(timing: &Timing, planned: &PlanChanges) -> bool
     timing.holder.is_none() && planned.settled.is_empty()
 }
 
-/// The answer to an edit of an intersection that was found. The fault is `NoMemory`.
+/// The answer to an edit of an intersection that was found.
 fn revise_found(
     alloc: Global,
     id: InterId,
@@ -101,9 +101,7 @@ fn revise_found(
 /// holds one, edited, and committed where that is asked for and it breaks no rule. `Same` where the
 /// plan is the committed set and nobody holds a draft; else `Moved`, in state Normal exactly where
 /// the plan was committed. `UnknownIntersection` where the intersection is not there, and the
-/// refusals of the transaction; a refused edit writes no row. The fault is `Damaged` where a row of
-/// the intersection or of its plan is no record, `Store` where the database refused, and `NoMemory`
-/// where a growth was refused.
+/// refusals of the transaction; a refused edit writes no row.
 pub fn decide_revision<S: Shelf>(
     shelf: &mut S,
     alloc: Global,

@@ -8,5 +8,5 @@ returns-clause-decides g c =
     let says = c.close_order-decision.ensures in
     decided 0 _ _ _ (CloseOrder c.args.id c.args.order c.args.closing.now) c.order-there.result
     c.close_order-decision.result c.report_record.result
-    (λ honest. taken_reads _ (place.Order c.args.id c.args.order) _ _ c.order-there.ensures (c.in_ok-found.ensures.row honest))
+    (λ honest. taken_reads _ (place.Order c.args.id c.args.order) _ _ (c.order-there.ensures c.args.id c.args.order) (c.in_ok-found.ensures.row honest))
     says.line (says.makes c.args.id c.args.order) c.report_record.ensures.tells c.report_record.ensures.fault

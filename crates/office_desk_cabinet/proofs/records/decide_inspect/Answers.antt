@@ -10,6 +10,7 @@ returns-clause-decides g c =
     let of = c.get-number.ensures in
     decided 0 _ _ _ (Inspect c.args.id c.args.inspection.now) c.inspection-there.result
     c.inspect-decision.result c.report_record.result
-    (λ honest. taken_reads _ (place.Inspection c.args.id c.args.inspection.now.number) _ _ c.inspection-there.ensures (c.in_ok-found.ensures.row honest))
+    (λ honest. taken_reads _ (place.Inspection c.args.id c.args.inspection.now.number) _ _ (c.inspection-there.ensures c.args.id c.args.inspection.now.number)
+    (c.in_ok-found.ensures.row honest))
     says.line (says.makes c.args.id (omega arith, omega arith))
     c.report_record.ensures.tells c.report_record.ensures.fault

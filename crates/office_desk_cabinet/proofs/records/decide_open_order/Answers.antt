@@ -8,5 +8,6 @@ returns-clause-decides g c =
     let says = c.open_order-decision.ensures in
     decided 0 _ _ _ (OpenOrder c.args.id c.args.opening.now) c.order-there.result
     c.open_order-decision.result c.report_record.result
-    (λ honest. taken_reads _ (place.Order c.args.id c.args.opening.now.number) _ _ c.order-there.ensures (c.in_ok-found.ensures.row honest))
+    (λ honest. taken_reads _ (place.Order c.args.id c.args.opening.now.number) _ _ (c.order-there.ensures c.args.id c.args.opening.now.number)
+    (c.in_ok-found.ensures.row honest))
     says.line (says.makes c.args.id) c.report_record.ensures.tells c.report_record.ensures.fault
