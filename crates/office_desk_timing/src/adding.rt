@@ -50,8 +50,6 @@ fn answer_add(
 }
 
 /// Decides the command AddIntersection; `interval` is the days from one inspection to the next.
-/// The fault is `Damaged` where the row of that number is no record, `Store` where the database
-/// refused, and `NoMemory` where a growth was refused.
 pub fn decide_add<S: Shelf>(
     shelf: &mut S,
     alloc: Global,

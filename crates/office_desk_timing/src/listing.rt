@@ -37,8 +37,7 @@ fn add_listed(
 }
 
 /// All intersections, in ascending order of their numbers. Their committed rows are counted, not
-/// read. The fault is `Damaged` where the row of some intersection is no record, `Store` where the
-/// database refused, and `NoMemory` where a growth was refused.
+/// read.
 pub fn list_intersections<S: Shelf>(
     shelf: &mut S,
     alloc: Global,

@@ -52,8 +52,7 @@ fn made_of(
     })
 }
 
-/// The row of an intersection, if there is one. The fault is `Damaged` where that row is no record,
-/// `Store` where the database refused, and `NoMemory` where a growth was refused.
+/// The row of an intersection, if there is one.
 pub fn intersection_row<S: Shelf>(
     shelf: &mut S,
     alloc: Global,
@@ -93,7 +92,7 @@ fn plan_rows<S: Shelf>(
 }
 
 /// Reads an intersection, if there is one, and of its plan as much as is asked for; the rest of the
-/// plan is left empty. The fault is `Damaged` where a row that is read is no record.
+/// plan is left empty.
 pub(crate) fn find<S: Shelf>(
     shelf: &mut S,
     alloc: Global,

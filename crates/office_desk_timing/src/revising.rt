@@ -74,9 +74,7 @@ fn asks_nothing(timing: &Timing, settled: &[Change]) -> bool
 /// holds one, edited, and committed where that is asked for and it breaks no rule. `Same` where the
 /// plan is the committed set and nobody holds a draft; else `Moved`, in state Normal exactly where
 /// the plan was committed. `UnknownIntersection` where the intersection is not there, and the
-/// refusals of the transaction; a refused edit writes no row. The fault is `Damaged` where a row of
-/// the intersection or of its plan is no record, `Store` where the database refused, and `NoMemory`
-/// where a growth was refused.
+/// refusals of the transaction; a refused edit writes no row.
 pub fn decide_revision<S: Shelf>(
     shelf: &mut S,
     alloc: Global,

@@ -82,9 +82,7 @@ fn verdict_at<S: Shelf>(
 }
 
 /// Decides the query State about an intersection; `UnknownIntersection` where there is none. The
-/// fault is `Damaged` where a row that is read is no record, `Store` where the database refused,
-/// and `NoMemory` where a growth was refused. The committed rows are counted, but read only in
-/// state Done.
+/// committed rows are counted, but read only in state Done.
 pub fn decide_state<S: Shelf>(
     shelf: &mut S,
     alloc: Global,
@@ -103,8 +101,7 @@ pub fn decide_state<S: Shelf>(
 }
 
 /// Decides the query Timing, which shows an intersection's committed rows; `UnknownIntersection`
-/// where there is none. The fault is `Damaged` where the intersection's row or a committed row is
-/// no record, `Store` where the database refused, and `NoMemory` where a growth was refused.
+/// where there is none.
 pub fn decide_timing<S: Shelf>(
     shelf: &mut S,
     alloc: Global,
@@ -153,8 +150,7 @@ fn draft_of(alloc: Global, found: Found) -> Result<Reply, NoMemory>
 }
 
 /// Decides the query Draft; `UnknownIntersection` where the intersection is not there, and
-/// `NotTransaction` where nobody holds a draft of it. The fault is `Damaged` where its row or a row
-/// of its plan is no record, `Store` for a refusal of the database, `NoMemory` for one of a growth.
+/// `NotTransaction` where nobody holds a draft of it.
 pub fn decide_draft<S: Shelf>(
     shelf: &mut S,
     alloc: Global,

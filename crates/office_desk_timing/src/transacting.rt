@@ -14,8 +14,7 @@ use signal_records::{InterId, Words};
 use std::alloc::Global;
 
 /// Decides a step of the transaction that this clerk asks for; `UnknownIntersection` where the
-/// intersection is not there. The fault is `Damaged` where a row that the step reads is no record,
-/// `Store` where the database refused, and `NoMemory` where a growth was refused.
+/// intersection is not there.
 pub fn transact<S: Shelf>(
     shelf: &mut S,
     alloc: Global,

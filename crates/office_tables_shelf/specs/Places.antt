@@ -94,38 +94,14 @@ place_of (key.Line id order line) = Line id order line
 place_of (key.Part code) = Part code.now
 place_of (key.Delivery code n) = Delivery code.now n
 
--- the inspection that was found, if one was
-abbrev pub found_inspection : Option RegisterRecord → Option InspectionRecord
-found_inspection (Some (kind.Inspection inspection)) = Some inspection
-found_inspection _ = None
-
--- the order that was found, if one was
-abbrev pub found_order : Option RegisterRecord → Option OrderRecord
-found_order (Some (kind.Order order)) = Some order
-found_order _ = None
-
--- the used part that was found, if one was
-abbrev pub found_line : Option RegisterRecord → Option UsedLine
-found_line (Some (kind.Line used)) = Some used
-found_line _ = None
-
--- how many of a part were found on hand, if so many were found
-abbrev pub found_hand : Option RegisterRecord → Option ℕ
-found_hand (Some (kind.Part hand)) = Some hand
-found_hand _ = None
-
--- the delivery that was found, if one was
-abbrev pub found_delivery : Option RegisterRecord → Option DeliveryRecord
-found_delivery (Some (kind.Delivery delivery)) = Some delivery
-found_delivery _ = None
-
 -- what was found, where it is of the kind of a place
 abbrev pub found_at : (place : Place) → Option RegisterRecord → Option (RecordAt place)
-found_at (Inspection id n) = found_inspection
-found_at (Order id n) = found_order
-found_at (Line id order line) = found_line
-found_at (Part code) = found_hand
-found_at (Delivery code n) = found_delivery
+found_at (Inspection id n) (Some (kind.Inspection inspection)) = Some inspection
+found_at (Order id n) (Some (kind.Order order)) = Some order
+found_at (Line id order line) (Some (kind.Line used)) = Some used
+found_at (Part code) (Some (kind.Part hand)) = Some hand
+found_at (Delivery code n) (Some (kind.Delivery delivery)) = Some delivery
+found_at _ _ = None
 
 -- a record of the kind of a place, within its limits
 abbrev pub IsOfPlace : Place → RegisterRecord → Type 0

@@ -1,7 +1,8 @@
 //! The keys of the register's rows, and the records under them.
 
-ghost use Rattle.std.specs.Prelude.{◌≡◌};
-ghost use Rattle.office_tables_shelf.specs.Places.{found_inspection, found_order, found_line, found_hand, found_delivery};
+ghost use Rattle.std.specs.Prelude.{◌≡◌, ℕ, List};
+ghost use Rattle.office_tables_shelf.specs.Places as place;
+ghost use Rattle.office_tables_shelf.specs.Places.{found_at};
 
 use cabinet_core::{Delivery, Hand, Inspection, Order, PartCode, UsedLine};
 use signal_records::{InterId, LineNo, RecordNo};
@@ -35,7 +36,7 @@ pub enum RegisterRecord {
 impl RegisterRecord {
     /// The inspection that was found, if one was.
     pub fn inspection(found: Option<RegisterRecord>) -> Option<Inspection>
-        ensures { result ≡ found_inspection found }
+        ensures { (id n : ℕ) → result ≡ found_at (place.Inspection id n) found }
     {
         match found {
             Some(RegisterRecord::Inspection(inspection)) => Some(inspection),
@@ -45,7 +46,7 @@ impl RegisterRecord {
 
     /// The order that was found, if one was.
     pub fn order(found: Option<RegisterRecord>) -> Option<Order>
-        ensures { result ≡ found_order found }
+        ensures { (id n : ℕ) → result ≡ found_at (place.Order id n) found }
     {
         match found {
             Some(RegisterRecord::Order(order)) => Some(order),
@@ -55,7 +56,7 @@ impl RegisterRecord {
 
     /// The used part that was found, if one was.
     pub fn line(found: Option<RegisterRecord>) -> Option<UsedLine>
-        ensures { result ≡ found_line found }
+        ensures { (id order line : ℕ) → result ≡ found_at (place.Line id order line) found }
     {
         match found {
             Some(RegisterRecord::Line(line)) => Some(line),
@@ -65,7 +66,7 @@ impl RegisterRecord {
 
     /// How many of a part are on hand, if its row was found.
     pub fn hand(found: Option<RegisterRecord>) -> Option<Hand>
-        ensures { result ≡ found_hand found }
+        ensures { (code : List ℕ) → result ≡ found_at (place.Part code) found }
     {
         match &found {
             Some(RegisterRecord::Part(hand)) => Some(*hand),
@@ -75,7 +76,7 @@ impl RegisterRecord {
 
     /// The delivery that was found, if one was.
     pub fn delivery(found: Option<RegisterRecord>) -> Option<Delivery>
-        ensures { result ≡ found_delivery found }
+        ensures { (code : List ℕ) (n : ℕ) → result ≡ found_at (place.Delivery code n) found }
     {
         match found {
             Some(RegisterRecord::Delivery(delivery)) => Some(delivery),

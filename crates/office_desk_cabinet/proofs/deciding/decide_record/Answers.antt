@@ -13,7 +13,7 @@ returns-in_ok-found-in-Inspect-clause-decides g c =
     let told = c.report_record.ensures in
     decided_as _ _ _ _ _ _ c.in-Inspect.is
     (decided (Some id) _ _ _ (Inspect id asked) c.inspection-there.result c.inspect-decision.result c.report_record.result
-    (λ honest. taken_reads _ (place.Inspection id asked.number) _ _ c.inspection-there.ensures (c.in_ok-found-in-Inspect.ensures.row honest))
+    (λ honest. taken_reads _ (place.Inspection id asked.number) _ _ (c.inspection-there.ensures id asked.number) (c.in_ok-found-in-Inspect.ensures.row honest))
     says.line (says.makes id (omega arith, omega arith)) refl told.tells told.fault)
 
 pub returns-in_ok-found-in-OpenOrder-clause-decides : goal.returns-in_ok-found-in-OpenOrder-clause-decides
@@ -24,7 +24,7 @@ returns-in_ok-found-in-OpenOrder-clause-decides g c =
     let told = c.report_record-in-OpenOrder.ensures in
     decided_as _ _ _ _ _ _ c.in-OpenOrder.is
     (decided (Some id) _ _ _ (OpenOrder id asked) c.order-there.result c.open_order-decision.result c.report_record-in-OpenOrder.result
-    (λ honest. taken_reads _ (place.Order id asked.number) _ _ c.order-there.ensures (c.in_ok-found-in-OpenOrder.ensures.row honest))
+    (λ honest. taken_reads _ (place.Order id asked.number) _ _ (c.order-there.ensures id asked.number) (c.in_ok-found-in-OpenOrder.ensures.row honest))
     says.line (says.makes id) refl told.tells told.fault)
 
 pub returns-in_ok-found-in-CloseOrder-clause-decides : goal.returns-in_ok-found-in-CloseOrder-clause-decides
@@ -36,5 +36,5 @@ returns-in_ok-found-in-CloseOrder-clause-decides g c =
     let told = c.report_record-in-CloseOrder.ensures in
     decided_as _ _ _ _ _ _ c.in-CloseOrder.is
     (decided (Some id) _ _ _ (CloseOrder id order asked) c.order-there-in-CloseOrder.result c.close_order-decision.result c.report_record-in-CloseOrder.result
-    (λ honest. taken_reads _ (place.Order id order) _ _ c.order-there-in-CloseOrder.ensures (c.in_ok-found-in-CloseOrder.ensures.row honest))
+    (λ honest. taken_reads _ (place.Order id order) _ _ (c.order-there-in-CloseOrder.ensures id order) (c.in_ok-found-in-CloseOrder.ensures.row honest))
     says.line (says.makes id order) (closed_rows id c.order-there-in-CloseOrder.result asked) told.tells told.fault)

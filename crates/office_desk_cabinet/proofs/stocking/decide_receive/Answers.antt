@@ -16,7 +16,7 @@ returns-clause-decides g c =
     let at_hand = c.record_at-2.ensures.reads.kept.honest_before honest in
     let first = c.record_at.ensures.reads.kept.same_content at_hand in
     let came = subst (λ t. ReadsAt (changed_by t pending) (Delivery asked.part asked.number) there) first
-    (taken_reads _ (Delivery asked.part asked.number) _ _ c.delivery-there.ensures (c.in_ok-record_at.ensures.row honest)) in
-    let on = taken_reads _ (Part asked.part) _ _ c.hand-hand.ensures (c.in_ok-found.ensures.row at_hand) in
+    (taken_reads _ (Delivery asked.part asked.number) _ _ (c.delivery-there.ensures asked.part asked.number) (c.in_ok-record_at.ensures.row honest)) in
+    let on = taken_reads _ (Part asked.part) _ _ (c.hand-hand.ensures asked.part) (c.in_ok-found.ensures.row at_hand) in
     (came, on))
     says.line (says.makes 0) refl c.report_record.ensures.tells c.report_record.ensures.fault

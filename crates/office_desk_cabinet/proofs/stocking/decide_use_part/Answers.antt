@@ -20,9 +20,9 @@ returns-clause-decides g c =
     let first = c.record_at.ensures.reads.kept.same_content at_hand in
     let second = c.record_at-2.ensures.reads.kept.same_content at_line ∙ first in
     let line = subst (λ t. ReadsAt (changed_by t pending) (Line id asked.order asked.line) there) first
-    (taken_reads _ (Line id asked.order asked.line) _ _ c.line-there.ensures (c.in_ok-record_at.ensures.row at_line)) in
+    (taken_reads _ (Line id asked.order asked.line) _ _ (c.line-there.ensures id asked.order asked.line) (c.in_ok-record_at.ensures.row at_line)) in
     let of = subst (λ t. ReadsAt (changed_by t pending) (Order id asked.order) order) second
-    (taken_reads _ (Order id asked.order) _ _ c.order-order.ensures (c.in_ok-record_at-2.ensures.row honest)) in
-    let on = taken_reads _ (Part asked.part) _ _ c.hand-hand.ensures (c.in_ok-found.ensures.row at_hand) in
+    (taken_reads _ (Order id asked.order) _ _ (c.order-order.ensures id asked.order) (c.in_ok-record_at-2.ensures.row honest)) in
+    let on = taken_reads _ (Part asked.part) _ _ (c.hand-hand.ensures asked.part) (c.in_ok-found.ensures.row at_hand) in
     (line, of, on))
     says.line (says.makes id) refl c.report_record.ensures.tells c.report_record.ensures.fault
