@@ -3,7 +3,7 @@
 these name.
 
     tools/calls.py [CRATE..]      by default of all crates of libraries
-    tools/calls.py CALL..         where a call is, and its clauses: serve, office_http::serve
+    tools/calls.py CALL..         where a call is, public or not, and its clauses: office_http::serve
     tools/calls.py --without      how many calls have no clause, and which
 
 A call is a `pub fn`, a method of a `pub trait`, or a method of an impl of a trait that states a
@@ -66,8 +66,8 @@ def owner_of(line):
     return re.match(r"\W*(\w+)", line[at:].split(" for ")[-1])[1], kind
 
 
-def calls_in(text):
-    """The calls of a file that the page shows, each with its clauses."""
+def calls_in(text, all_of_them=False):
+    """The calls of a file that the page shows, or all of them, each with its clauses."""
     owner, kind, found, open_clause, depth = "", "", [], None, 0
     for at, line in enumerate(text.splitlines(), 1):
         if open_clause is not None:
@@ -88,7 +88,7 @@ def calls_in(text):
             found[-1][0].clauses.append(said)
             depth = clause[3].count("{") - clause[3].count("}")
             open_clause = said if depth > 0 else None
-    return [call for call, kind in found if call.is_shown(kind)]
+    return [call for call, kind in found if all_of_them or call.is_shown(kind)]
 
 
 def definitions_of(text, crate):
@@ -130,10 +130,17 @@ def shown(crate):
         yield f"    {name:{WIDTH}} {said}".rstrip()
 
 
-def file_of(place, crate):
-    """The path of a file of definitions, of which a crate's own ones are named without it."""
+def file_of(word, place, crate):
+    """The path of the file in which a definition is that a file named so has or hands on."""
     *other, name = place.split("/")
-    return f"crates/{other[0] if other else crate}/specs/{name}.antt"
+    path = pathlib.Path("crates", other[0] if other else crate, "specs", f"{name}.antt")
+    defined = re.compile(rf"^(?:abbrev|pub|record|data)\b[ \w]*\b{word}\b", re.MULTILINE)
+    if (TOP / path).exists() and defined.search((TOP / path).read_text()):
+        return path
+    for it in sorted((TOP / "crates").glob(f"*/specs/{name}.antt")):
+        if defined.search(it.read_text()):
+            return it.relative_to(TOP)
+    return path
 
 
 def clauses_of(asked):
@@ -143,14 +150,14 @@ def clauses_of(asked):
         for path in sorted((TOP / "crates" / crate / "src").rglob("*.rt")):
             text = path.read_text()
             files = definitions_of(text, crate)
-            for it in calls_in(text):
+            for it in calls_in(text, True):
                 if it.name != name or not {*owners} <= {crate, path.stem, it.owner}:
                     continue
                 said = [f"    {kind} {label or ''} {text}".replace("  {", " {")
                         for kind, label, text in it.clauses]
                 words = {word for line in said for word in re.findall(r"[\w◌]+", line)}
-                places = [f"    {word}: {file_of(files[word], crate)}" for word in sorted(words)
-                          if word in files]
+                places = [f"    {word}: {file_of(word, files[word], crate)}"
+                          for word in sorted(words) if word in files]
                 head = f"{path.relative_to(TOP)}:{it.line}: {'::'.join(filter(None, (it.owner, name)))}"
                 yield "\n".join([head, *(said or ["    no clause"]), *places, ""])
 
@@ -180,7 +187,7 @@ def main():
     elif calls := [it for it in words if it not in known]:
         found = {it: [*clauses_of(it)] for it in calls}
         if wrong := [it for it in calls if not found[it]]:
-            sys.exit(f"calls.py: {', '.join(wrong)}: neither a crate of a library nor a public call")
+            sys.exit(f"calls.py: {', '.join(wrong)}: neither a crate of a library nor a call")
         print("\n".join(text for it in calls for text in found[it]), end="")
     else:
         print("\n".join(listed(words or known)), end="")
