@@ -1,6 +1,6 @@
 -- What the texts that make the tables make of a database that has none.
-use Rattle.std.proofs.Common.{◌≡◌, ◌≤◌, ℕ, true, false, List, [], ◌∷◌, map, Some, Result, Ok, Err, refl, sym, ap, subst, ◌∙◌, arith}
-use Rattle.std.specs.{List.AllByRecursion, Prelude.OnOk, Prelude.⊤}
+use Rattle.std.proofs.Common.{◌≡◌, ◌≤◌, ℕ, true, false, List, [], ◌∷◌, map, Result, Ok, Err, refl, sym, ap, subst, ◌∙◌, arith}
+use Rattle.std.specs.{List.AllByRecursion}
 use Rattle.sqlite.specs.{Does.MakesTable, Does.MakesSequence, Does.lacks_sequence, Does.no_rows, State.State, State.ExecutesInside, State.HasCleanDisk, State.Shows, Command.TheVariants.CreateTable, Effect.Database, Effect.IsDatabase, Given.IsPlain, Held.Held, Held.state, Listing.understood, Rows.Then, Rows.Gives, Tree.Trees, View.IsShaped}
 use Rattle.sqlite.proofs.Callers.{runs_as, through}
 use Rattle.sqlite_catalog.specs.Change.{created, next_tree, KeepsRows}
@@ -11,14 +11,13 @@ use Rattle.sqlite_trees.specs.declared.store.Shape.TheVariants as shape
 use Rattle.sqlite_trees.specs.{declared.store.Store.Ghosts, View.doubt}
 use Rattle.sqlite_trees.proofs.ListLemmas.{all_both, all_weaker}
 use Rattle.office_tables_shelf.proofs.ListLemmas.{all_more}
-use Rattle.office_tables_shelf.specs.Content.{Content, no_content}
+use Rattle.office_tables_shelf.specs.Content.{no_content}
 use Rattle.office_tables_statements.specs.Calls.{AreOrdered, IsOffice, IsReady, command_of, statement_of}
 use Rattle.office_tables_shelf.specs.declared.rows.Table.TheVariants as table
 use Rattle.office_tables_statements.specs.Tables.{layout_at}
 use Rattle.office_tables_statements.specs.Stored.{content_now, rows_in}
 use Rattle.office_tables_statements.specs.{Schema.no_schema, Schema.office_schema, declared.schema.TheConstants.CREATES}
-use Rattle.office_tables.specs.{Opening.AreRun, Opening.IsMade}
-use Rattle.office_tables_sql.specs.{Version.version_in, Version.current_version}
+use Rattle.office_tables.specs.{Opening.AreRun}
 
 -- in a transaction over tables without a row
 pub record IsOver (s : State) (schema : Schema) : Type 0 where
@@ -140,15 +139,3 @@ module _ (mid new : State) (clean : doubt mid.is_clean ≤ doubt new.is_clean) (
 
   pub committed_rows : (P : Trees → Type 0) → (HasCleanDisk mid → P mid.now.trees) → HasCleanDisk new → P new.now.trees
   committed_rows P holds h = subst (λ (d : Database). P d.trees) (sym (shows h).now_is) (holds (omega (arith, h, clean)))
-
--- the office's tables, in which today's version is stored
-pub made_ready : (s : State) (tables : Content) → IsReady s → content_now s ≡ tables → version_in s.now.trees ≡ Some current_version → IsMade tables s
-made_ready s tables ready content stored = record {
-  ready = ready;
-  completes = record { content = content; today = record { sound = subst (λ schema. IsDatabase (record s.now { schema = schema })) ready.schema ready.sound; stored = stored } };
-}
-
-pub made_if : {E : Type 0} (r : Result ⊤ E) (old new : State) → IsReady old → content_now old ≡ no_content → OnOk r (IsReady old → IsReady new) → OnOk r (IsReady old → content_now new ≡ content_now old)
-    → OnOk r (IsReady old → version_in new.now.trees ≡ Some current_version) → OnOk r (IsMade no_content new)
-made_if (Ok x) old new ready none goes same stored = made_ready new no_content (goes ready) (same ready ∙ none) (stored ready)
-made_if (Err e) old new ready none goes same stored = tt

@@ -8,18 +8,15 @@ use Rattle.sqlite.specs.Values.{bound_value}
 use Rattle.sqlite_schema.specs.declared.{schema.Column.Column, schema.Kind.Kind}
 use Rattle.sqlite_schema.specs.declared.schema.Kind.TheVariants as kind
 use Rattle.office_tables_shelf.specs.Cells.{Cell, null, number, text, odd}
-use Rattle.office_tables_shelf.specs.Content.{Content, no_content}
+use Rattle.office_tables_shelf.specs.Content.{Content}
 use Rattle.office_tables_shelf.specs.declared.rows.Table.{Table}
 use Rattle.office_tables_shelf.specs.declared.rows.Table.TheVariants as table
 use Rattle.office_tables_statements.specs.{Layout.values_at, Calls.IsReady, Calls.IsTurned, Calls.Ran}
 use Rattle.office_tables_statements.specs.Stored.{are_sound, cell_of, cells, cells_at, content_now, is_sound}
 use Rattle.office_tables_statements.specs.Tables.{Fits, IsInsertText, layout_at, places_of, schema_at, suit, suits_kind, value_of, values_of}
 use Rattle.office_tables_statements.proofs.{StoredPuts.inserts, TableLemmas.each}
-use Rattle.office_tables.specs.Moved.{Part, all_put, part_moved, row_put, rows_put}
+use Rattle.office_tables.specs.Moved.{all_put, part_moved, row_put, rows_put}
 use Rattle.office_tables.specs.declared.gather.Moved.{Moved}
-use Rattle.office_tables.specs.{Opening.IsMade}
-use Rattle.office_tables_sql.specs.{Version.version_of}
-use Rattle.office_tables.proofs.MadeLemmas.{made_ready}
 
 -- ---- values and their cells
 
@@ -142,10 +139,3 @@ turned_then (Ok x) old mid new first last one two same = λ ready.
     let then = two was.ready in
     record { ready = then.ready; content = then.content ∙ same was; version = then.version ∙ was.version }
 turned_then (Err e) old mid new first last one two same = tt
-
--- the rows were put into new tables, in which the version stays
-pub refilled_if : {E : Type 0} (r : Result ⊤ E) (all : List Part) (mid new : State) → OnOk r (IsReady mid → IsTurned (all_put (content_now mid) all) mid new) → IsMade no_content mid → OnOk r (IsMade (all_put no_content all) new)
-refilled_if (Ok x) all mid new put is =
-    let turned = put is.ready in
-    made_ready new _ turned.ready (turned.content ∙ ap (λ c. all_put c all) is.completes.content) (ap version_of turned.version ∙ is.completes.today.stored)
-refilled_if (Err e) all mid new put is = tt
