@@ -116,11 +116,6 @@ pub put_stored : (t : Table) (row : Row) → IsTold t row → IsSuited t row →
 put_stored t row told suited sql means params is old new count ready ran =
     inserts t _ _ (fits t row told suited) sql means old new count ready (subst (λ ps. Ran sql ps old new count) (is ∙ bound_row t row suited) ran)
 
--- one more value that was bound
-pub one_bound : {X Y Z : Type 0} (f : X → Z) (g : Y → Z) (xs : List X) (x : X) (y : Y) (ys : List Y) → f x ≡ g y → map f (xs ++ x ∷ []) ++ map g ys ≡ map f xs ++ map g (y ∷ ys)
-one_bound f g [] x y ys e = ap (λ z. z ∷ map g ys) e
-one_bound f g (w ∷ xs) x y ys e = ap (λ zs. f w ∷ zs) (one_bound f g xs x y ys e)
-
 -- ---- one row after another, from the last one
 
 pub last_row : (t : Table) (base : Content) (rows : List Row) (row : Row) → rows_put t base (rows ++ row ∷ []) ≡ rows_put t (row_put t base row) rows

@@ -1,9 +1,9 @@
 use Rattle.office_tables_shelf.specs.Content.{no_content}
-use Rattle.std.proofs.Common.{◌≡◌, map, refl, sym, subst, rules}
+use Rattle.std.proofs.Common.{◌≡◌, map, refl, sym, rules}
 use Rattle.sqlite.specs.{Held.state, State.HasCleanDisk, State.Survives, Tree.Trees}
 use Rattle.office_tables_statements.proofs.CallLemmas.{ended_survives}
-use Rattle.office_tables_statements.specs.Calls.{IsHonest, IsOffice}
-use Rattle.office_tables.proofs.{MadeLemmas.committed_office, MadeLemmas.committed_rows, open.make_tables.Given.Over}
+use Rattle.office_tables_statements.specs.Calls.{IsHonest}
+use Rattle.office_tables.proofs.{open.make_tables.Given.Over}
 use Rattle.office_tables.specs.{Moved.all_put, Moved.part_moved, Opening.IsMade}
 use Rattle.office_tables_sql.specs.{Version.Completes}
 use Rattle.office_tables.proofs.open.make_tables.Goals.{After-commit}
@@ -25,25 +25,6 @@ crash g c h same =
     let it = c.in_ok-make_again.ensures in
     rw (sym same) (ended_survives g.S.Store c.args.conn.now c.make_again.new.tx.conn.now (state g.S.Store c.commit.new.self.0) _
     (rw begun at it.stands.crash) c.commit.ensures.survives (λ clean. (rw begun at (it.honest clean), (made g c clean).completes)))
-
-pub returns-clause-office : goal.returns-clause-office
-returns-clause-office g c =
-    let mid = state g.S.Store c.make_again.new.tx.conn.now in
-    let it = c.in_ok-commit.ensures in
-    let at = (goal.at.returns-clause-office g c).After-commit in
-    let whole = committed_office mid (state g.S.Store c.commit.new.self.0) it.survives.clean (λ clean. (it.ok clean).1) (λ clean. (made g at clean).ready) it.ended in
-    let same : c.commit.new.self.0 ≡ c.conn-2-1.given.0 = search rules in
-    subst (λ h. IsOffice (state g.S.Store h)) same whole
-
-pub returns-clause-made : goal.returns-clause-made
-returns-clause-made g c =
-    let mid = c.make_again.new.tx.conn.now in
-    let it = c.in_ok-commit.ensures in
-    let at = (goal.at.returns-clause-made g c).After-commit in
-    let P = Completes (all_put no_content (map part_moved c.args.eight.items)) in
-    let whole : IsHonest (state g.S.Store c.commit.new.self.0) → P (state g.S.Store c.commit.new.self.0).now.trees = λ honest. committed_rows (state g.S.Store mid) (state g.S.Store c.commit.new.self.0) it.survives.clean (λ clean. (it.ok clean).1) P (λ clean. (made g at clean).completes) honest.0 in
-    let same : c.commit.new.self.0 ≡ c.conn-2-1.given.0 = search rules in
-    subst (λ h. IsHonest (state g.S.Store h) → P (state g.S.Store h).now.trees) same whole
 
 pub returns-clause-crash : goal.returns-clause-crash
 returns-clause-crash g c =
