@@ -2,7 +2,7 @@
 use Rattle.std.proofs.Common.{◌≡◌, ◌≢◌, inl, inr, Result, Ok, IsTrue, sym, ap, subst, ◌∙◌, arith}
 use Rattle.std.proofs.lemmas.Result.{IfOk-weaker}
 use Rattle.sqlite.specs.{Held.Held, Held.state, State.State, State.HasCleanDisk, State.Survives, Tree.Trees, View.IsClean}
-use Rattle.sqlite_trees.specs.{View.IsQuiet, View.IsRolledBack, declared.store.Store.Ghosts}
+use Rattle.sqlite_trees.specs.{View.IsQuiet, declared.store.Store.Ghosts}
 use Rattle.office_tables_shelf.specs.Content.{Content}
 use Rattle.office_tables_statements.specs.{Calls.IsHonest, Stored.content_now}
 use Rattle.office_tables.specs.Opening.{IsAsFound, IsIdleOrSame, IsLeft, IsOpened, IsRefused, MayMake, TellsOfTables, store_left}
@@ -18,15 +18,6 @@ made_over old new tables may it = record { taken = inr may.may; kept = subst (Ho
 module _ {S : Type 0} (g : Ghosts S) (conn : Held S) where
   abbrev old : State
   old = state g conn
-
-  -- a connection that was given up, and its store
-  pub given_up : (store : S) → IsRolledBack (g.view conn.store) (g.view store) → IsQuiet g.view g.faults g.recovers g.is_shielded conn.store store → IsAsFound g conn store
-  given_up store undone quiet = record {
-    clean = quiet.clean;
-    was_open = λ h. (undone.kept h.0).was_open h.1;
-    committed = λ h. (undone.kept h.0).committed h.1;
-    crash = λ h trees left. inl (quiet.outcomes trees left);
-  }
 
   -- the store was read since
   pub still_found : (store left : S) → IsAsFound g conn store → (IsClean (g.view store) → IsTrue old.is_open) → IsQuiet g.view g.faults g.recovers g.is_shielded store left
@@ -77,9 +68,6 @@ module _ {S : Type 0} (g : Ghosts S) (conn : Held S) where
     where
       neither : {A : Type 0} → TellsOfTables why → A
       neither told = elim told [ inl is ↦ absurd (no_version is) | inr is ↦ absurd (no_damage is) ]
-
-  pub refused_found : (why : OpenFault) (back : Result (Held S) S) → why ≢ fault.Version → why ≢ fault.Damaged → IsAsFound g conn (store_left g back) → IsIdleOrSame g conn back → IsRefused g conn why back
-  refused_found why back no_version no_damage it = refused_left why back no_version no_damage (as_left _ (store_left g back) it)
 
   module _ (c : Held S) (it : IsCheckedAgain old (state g c)) where
     -- its database was checked again

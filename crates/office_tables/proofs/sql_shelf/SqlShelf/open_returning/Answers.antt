@@ -1,11 +1,6 @@
 use Rattle.std.proofs.lemmas.Result.{IfOk-weaker, IfErr-weaker}
-use Rattle.office_tables.proofs.LeftLemmas.{opened_before, refused_before, refused_found}
+use Rattle.office_tables.proofs.LeftLemmas.{opened_before, refused_before}
 use Rattle.office_tables.proofs.sql_shelf.SqlShelf.open_returning.Goals as goal
-
-pub returns-in-Err-clause-refused : goal.returns-in-Err-clause-refused
-returns-in-Err-clause-refused g c =
-    let fault = c.from.ensures in
-    refused_found g.S.Store c.args.conn _ _ fault.0 fault.1 c.in-Err.ensures.left tt
 
 pub returns-in-Ok-clause-opened : goal.returns-in-Ok-clause-opened
 returns-in-Ok-clause-opened g c =
