@@ -1,6 +1,6 @@
 -- Rows that are put into the tables of the office as they were stored.
-use Rattle.std.proofs.Common.{◌≡◌, ℕ, true, true≢false, ◌&&◌, List, [], ◌∷◌, ◌++◌, map, length, drop, Result, Ok, Err, refl, sym, ap, subst, ◌∙◌}
-use Rattle.std.proofs.lemmas.Bool.{and_parts}
+use Rattle.std.proofs.Common.{◌≡◌, ℕ, true, true≢false, ◌&&◌, List, [], ◌∷◌, ◌++◌, map, length, Result, Ok, Err, refl, sym, ap, subst, ◌∙◌}
+use Rattle.std.proofs.lemmas.Bool.{and_parts, and_from}
 use Rattle.std.specs.Prelude.{OnOk, ⊤}
 use Rattle.sqlite.specs.{Order.Row, Order.column, State.State}
 use Rattle.sqlite.specs.declared.types.Value.{Value, TheVariants.Null, TheVariants.Int, TheVariants.Real, TheVariants.Text, TheVariants.Blob}
@@ -13,7 +13,7 @@ use Rattle.office_tables_shelf.specs.declared.rows.Table.{Table}
 use Rattle.office_tables_shelf.specs.declared.rows.Table.TheVariants as table
 use Rattle.office_tables_statements.specs.{Layout.values_at, Calls.IsReady, Calls.IsTurned, Calls.Ran}
 use Rattle.office_tables_statements.specs.Stored.{are_sound, cell_of, cells, cells_at, content_now, is_sound}
-use Rattle.office_tables_statements.specs.Tables.{Fits, IsInsertText, layout_at, places_of, schema_at, suit, suits_kind, value_of, values_of}
+use Rattle.office_tables_statements.specs.Tables.{IsInsertText, layout_at, places_of, schema_at, suit, suits_kind, takes, value_of, values_of}
 use Rattle.office_tables_statements.proofs.{StoredPuts.inserts, TableLemmas.each}
 use Rattle.office_tables.specs.Moved.{all_put, part_moved, row_put, rows_put}
 use Rattle.office_tables.specs.declared.gather.Moved.{Moved}
@@ -52,46 +52,20 @@ IsTold t row = are_sound (layout_at t).keys row ≡ true
 abbrev IsSuited : Table → Row → Type 0
 IsSuited t row = suit (schema_at t).columns (cells_at (places_of t) row) ≡ true
 
-abbrev FitsRow : Table → Row → Type 0
-FitsRow t row = Fits t (cells_at (layout_at t).keys row) (cells_at (layout_at t).columns row)
+abbrev IsTaken : Table → Row → Type 0
+IsTaken t row = takes t (cells_at (layout_at t).keys row) (cells_at (layout_at t).columns row) ≡ true
 
-fits_first : (v : Value) (row : Row) → is_sound v && true ≡ true → suit (schema_at table.Intersection).columns (cell_of v ∷ cells_at (2 ∷ 3 ∷ 4 ∷ 5 ∷ 6 ∷ []) row) ≡ true
-    → Fits table.Intersection (cell_of v ∷ []) (cells_at (2 ∷ 3 ∷ 4 ∷ 5 ∷ 6 ∷ []) row)
-fits_first (Int n) row told suited =
-    let others = values_at (2 ∷ 3 ∷ 4 ∷ 5 ∷ 6 ∷ []) row in
-    let back = back_values (drop 1 (schema_at table.Intersection).columns) others refl suited in
-    let shown = ap (λ vs. cells_at (2 ∷ 3 ∷ 4 ∷ 5 ∷ 6 ∷ []) (Null ∷ Null ∷ vs)) back in
-    record {
-      whole = refl;
-      named = refl;
-      given = λ limit db rows h. h.1;
-      rest = λ r. refl;
-      numbered = refl;
-      suits = suited;
-      placed = λ rows. (refl, shown);
-      kept = λ m r has. has;
-      shows = λ m. shown;
-    }
-fits_first (Text t) row told suited = absurd (true≢false (sym suited))
-fits_first _ row told suited = absurd (true≢false (sym told))
+taken_first : (v : Value) (row : Row) → is_sound v && true ≡ true → suit (schema_at table.Intersection).columns (cell_of v ∷ cells_at (2 ∷ 3 ∷ 4 ∷ 5 ∷ 6 ∷ []) row) ≡ true
+    → takes table.Intersection (cell_of v ∷ []) (cells_at (2 ∷ 3 ∷ 4 ∷ 5 ∷ 6 ∷ []) row) ≡ true
+taken_first (Int n) row told suited = suited
+taken_first (Text t) row told suited = absurd (true≢false (sym suited))
+taken_first _ row told suited = absurd (true≢false (sym told))
 
-fits : (t : Table) (row : Row) → IsTold t row → IsSuited t row → FitsRow t row
-fits table.Intersection row told suited = fits_first (column row 0) row told suited
-fits t row told suited =
+taken : (t : Table) (row : Row) → IsTold t row → IsSuited t row → IsTaken t row
+taken table.Intersection row told suited = taken_first (column row 0) row told suited
+taken t row told suited =
     let back = back_values (schema_at t).columns (values_at (places_of t) row) refl suited in
-    let keyed = ap (λ vs. cells_at (layout_at t).keys (Null ∷ vs)) back in
-    let shown = ap (λ vs. cells_at (layout_at t).columns (Null ∷ vs)) back in
-    record {
-      whole = ap (are_sound (layout_at t).places) back ∙ told;
-      named = ap (cells_at (layout_at t).places) back;
-      given = λ limit db rows h. h.1;
-      rest = λ r. refl;
-      numbered = refl;
-      suits = suited;
-      placed = λ rows. (keyed, shown);
-      kept = λ m r has. keyed;
-      shows = λ m. shown;
-    }
+    and_from _ _ (ap (are_sound (layout_at t).places) back ∙ told) suited
 
 bound_cells : (xs : List Cell) → map bound_value (values_of xs) ≡ values_of xs
 bound_cells [] = refl
@@ -114,7 +88,7 @@ bound_row t row suited =
 pub put_stored : (t : Table) (row : Row) → IsTold t row → IsSuited t row → (sql : List ℕ) → IsInsertText t sql → (params : Row) → params ≡ bound_at row (places_of t)
     → (old new : State) (count : ℕ) → IsReady old → Ran sql params old new count → IsTurned (row_put t (content_now old) row) old new
 put_stored t row told suited sql means params is old new count ready ran =
-    inserts t _ _ (fits t row told suited) sql means old new count ready (subst (λ ps. Ran sql ps old new count) (is ∙ bound_row t row suited) ran)
+    inserts t _ _ (taken t row told suited) sql means old new count ready (subst (λ ps. Ran sql ps old new count) (is ∙ bound_row t row suited) ran)
 
 -- ---- one row after another, from the last one
 

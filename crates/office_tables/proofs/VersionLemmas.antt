@@ -1,45 +1,45 @@
 -- The stored version and its statements.
 use Rattle.std.proofs.Common.{◌≡◌, ℕ, [], ◌∷◌, length, codes, refl, sym, ap, subst, ◌∙◌, cond, Option, Some, IfSome, option_map, pos}
 use Rattle.std.specs.{Option.option_to_list, FinMap.get, FinMap.insert, FinMap.get-insert}
-use Rattle.sqlite.specs.{Command.TheVariants.Select, Command.TheVariants.Insert, Command.TheVariants.Delete, Effect.Database, Effect.IsDatabase, Listing.understood, Order.Row, Cast.cast_row, Source.Source, State.State, Source.TheVariants.Values, Term.lit, Term.col, View.IsShaped}
+use Rattle.sqlite.specs.{Command.TheVariants.Select, Command.TheVariants.Insert, Command.TheVariants.Delete, Effect.Database, Effect.IsDatabase, Order.Row, Cast.cast_row, Source.Source, State.State, Source.TheVariants.Values, Term.lit, Term.col, View.IsShaped}
 use Rattle.sqlite.specs.declared.types.Value.TheVariants.{Null, Int}
 use Rattle.sqlite_tied.specs.Compute.{everything}
 use Rattle.office_tables_statements.specs.Layout as layout
 use Rattle.office_tables_shelf.specs.{Cells.number}
-use Rattle.office_tables_statements.specs.{Stored.rows_in, Stored.cells, Stored.rows_stored, Stored.content_now, Calls.Reads, Calls.IsReady, Calls.Ran, Tables.found_by, Layout.office_version}
+use Rattle.office_tables_statements.specs.{Stored.rows_in, Stored.cells, Stored.rows_stored, Stored.content_now, Calls.Means, Calls.Reads, Calls.IsReady, Calls.Ran, Tables.found_by, Layout.office_version}
 use Rattle.office_tables_statements.specs.Schema.{office_schema, version_table}
 use Rattle.office_tables_sql.specs.Version.{version_in, current_version}
 use Rattle.office_tables.specs.Opening.{IsMade}
-use Rattle.office_tables_statements.proofs.QueryLemmas.{IsRead, IsWrite, AreShaped, found_by_key, has_width}
+use Rattle.office_tables_statements.proofs.QueryLemmas.{AreShaped, found_by_key, has_width}
 use Rattle.office_tables_statements.proofs.WriteLemmas.{Added, adds, IsIdle, wrote}
 use Rattle.office_tables_statements.proofs.{StoredLemmas.get_columns, StoredLemmas.sound_rowids, Casts.cast_int, Casts.cast_null, RemoveLemmas.remove_keyed, ContentLemmas.tie_self, ContentLemmas.put_at, ContentLemmas.free_rowid, TableLemmas.apart, TableLemmas.none_in}
 use Rattle.sqlite_trees.specs.declared.store.Shape.TheVariants as shape
 use Rattle.office_tables_shelf.proofs.CellLemmas.{cells_total}
 use Rattle.office_tables.specs.declared.version.TheConstants.{FIND as FIND_VERSION, DROP as DROP_VERSION, PUT as PUT_VERSION}
 
-pub find_version_is : IsRead FIND_VERSION.now (Select (record { lets = []; body = found_by office_version office_version.columns }) (codes "version" ∷ []))
-unfolding understood everything
-find_version_is = record { is = refl; query = record { plain = (refl, refl); unlisted = refl } }
+pub find_version_is : Means FIND_VERSION.now (Select (record { lets = []; body = found_by office_version office_version.columns }) (codes "version" ∷ []))
+unfolding everything
+find_version_is = refl
 
-pub put_version_is : IsWrite PUT_VERSION.now (Insert 8 (Values (col 0 0 ∷ lit Null ∷ col 0 1 ∷ []) 3))
-unfolding understood everything
-put_version_is = record { is = refl; plain = (refl, refl) }
+pub put_version_is : Means PUT_VERSION.now (Insert 8 (Values (col 0 0 ∷ lit Null ∷ col 0 1 ∷ []) 3))
+unfolding everything
+put_version_is = refl
 
-pub drop_version_is : IsWrite DROP_VERSION.now (Delete 8 (record { lets = []; body = found_by office_version (0 ∷ []) }))
-unfolding understood everything
-drop_version_is = record { is = refl; plain = (refl, refl) }
+pub drop_version_is : Means DROP_VERSION.now (Delete 8 (record { lets = []; body = found_by office_version (0 ∷ []) }))
+unfolding everything
+drop_version_is = refl
 
 pub find_version : (db : Database) → AreShaped db.trees office_version → (row : Option Row) → Reads FIND_VERSION.now (Int (pos 1) ∷ []) db (option_to_list row) → option_map cells row ≡ version_in db.trees
 find_version db shaped row reads =
     let rows = db.trees 15 in
     ap (option_map cells) (found_by_key office_version tt office_version.columns FIND_VERSION.now _
-    find_version_is.is (Int (pos 1) ∷ []) db rows refl row reads)
+    find_version_is (Int (pos 1) ∷ []) db rows refl row reads)
     ∙ sym (get_columns office_version rows (Int (pos 1) ∷ [])
     (sound_rowids office_version refl rows shaped) refl)
 
 pub version_width : (db : Database) (row : Option Row) → Reads FIND_VERSION.now (Int (pos 1) ∷ []) db (option_to_list row) → IfSome row (λ r. length r ≡ 1)
 version_width db = has_width office_version tt office_version.columns FIND_VERSION.now _
-    find_version_is.is (Int (pos 1) ∷ []) db (db.trees 15) refl
+    find_version_is (Int (pos 1) ∷ []) db (db.trees 15) refl
 
 -- ---- what is stored
 

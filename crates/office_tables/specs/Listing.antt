@@ -1,7 +1,6 @@
 -- The queries of all rows of `timing` and of `draft`.
-use Rattle.std.specs.Prelude.{◌≡◌, ℕ, List, [], ◌∷◌, codes, None, refl, Vec, Result, IfOk, Err}
+use Rattle.std.specs.Prelude.{◌≡◌, ℕ, List, [], ◌∷◌, None, refl, Vec, Result, IfOk, Err}
 use Rattle.std.specs.declared.alloc.Global.{Global}
-use Rattle.sqlite.specs.Listing.{understood}
 use Rattle.sqlite.specs.State.{State}
 use Rattle.sqlite_tied.specs.Compute.{everything}
 use Rattle.signal_records.specs.declared.record.Change.{Change}
@@ -29,24 +28,12 @@ ListsKept result new sql rows = IfOk result (λ kept. IsHonest new → (t : Tabl
 abbrev pub TellsNoFormer : Result (Vec (ℕ × Change) Global) ShelfFault → State → List ℕ → (Table → TableRows) → Type 0
 TellsNoFormer result new sql rows = result ≡ Err fault.Damaged → IsHonest new → (t : Table) → ListsAll t sql → HasNoFormer (rows t)
 
--- the names of the columns that the queries of all of `timing` and of all of `draft` show
-abbrev shown_columns : List (List ℕ)
-shown_columns = codes "inter" ∷ codes "kind" ∷ codes "a" ∷ codes "b" ∷ codes "body" ∷ []
-
 -- the query of all committed rows shows the whole table, in the order of its keys
 pub lists_timing : ListsAll Timing TIMING.now
-unfolding understood everything
-lists_timing = record {
-  text = record { names = shown_columns; is = refl; query = record { plain = (refl, refl); unlisted = refl } };
-  keys = refl;
-  columns = refl;
-}
+unfolding everything
+lists_timing = record { text = refl; keys = refl; columns = refl }
 
 -- the query of all draft rows shows the whole table, in the order of its keys
 pub lists_draft : ListsAll Draft DRAFT.now
-unfolding understood everything
-lists_draft = record {
-  text = record { names = shown_columns; is = refl; query = record { plain = (refl, refl); unlisted = refl } };
-  keys = refl;
-  columns = refl;
-}
+unfolding everything
+lists_draft = record { text = refl; keys = refl; columns = refl }

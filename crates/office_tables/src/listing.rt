@@ -4,7 +4,7 @@ ghost use Rattle.std.specs.Prelude.{◌≡◌, map, length, IfOk, Err};
 ghost use Rattle.sqlite.specs.Held.{state};
 ghost use Rattle.signal_records.specs.Within.{IsChangeWithin, version_1_limits};
 ghost use Rattle.office_tables_statements.specs.Listed.{shown_key, shown_body};
-ghost use Rattle.office_tables_statements.specs.Calls.{IsOffice, IsQuery, Keeps, TellsOpen};
+ghost use Rattle.office_tables_statements.specs.Calls.{IsOffice, IsStatement, Keeps, TellsOpen};
 ghost use Rattle.office_tables_statements.specs.Stored.{content_now};
 ghost use Rattle.office_tables_statements.specs.Tables.{rows_at};
 ghost use Rattle.office_tables.specs.Rewritten.{former_cells, shown_cells, AreFormer, IsNoFormer, HaveFive, ShowNoFormer};
@@ -77,7 +77,7 @@ pub(crate) fn former_rows<S: Alter>(
     sql: &str,
 ) -> Result<Vec<(InterId, Change)>, ShelfFault>
     requires office { IsOffice (state S.Store conn.old) }
-    requires query { IsQuery sql.now }
+    requires query { IsStatement sql.now }
     ensures rows { ListsKept result (state S.Store conn.new) sql.now
         (rows_at (content_now (state S.Store conn.old))) }
     ensures damaged { TellsNoFormer result (state S.Store conn.new) sql.now

@@ -16,9 +16,9 @@ use office_tables_shelf::counts::WriteCounts;
 use office_tables_shelf::register::{RegisterKey, RegisterRecord};
 use office_tables_shelf::rows::{IntersectionRow, RowChange, Table};
 use office_tables_shelf::shelf::{Shelf, ShelfFault};
-use office_tables_sql::{change, each_row, inspection, intersection, order, register, timing};
+use office_tables_sql::{change, each_row, inspection, order, register, stored_row, timing};
 use signal_records::{Change, InterId, Row};
-use sqlite::{Alter, Connection, FileStore};
+use sqlite::{Alter, Connection, FileStore, params};
 use sqlite_disk::Disk;
 use std::alloc::Global;
 use std::collections::BTreeMap;
@@ -167,7 +167,7 @@ impl<S: Alter> Shelf for SqlShelf<S> {
         alloc: Global,
         id: InterId,
     ) -> Result<Option<IntersectionRow>, ShelfFault> {
-        intersection::read(alloc, &mut self.conn, id)
+        stored_row::find(alloc, &mut self.conn, id, params![id.get()])
     }
 
     fn intersections(

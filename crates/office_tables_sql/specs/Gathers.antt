@@ -1,7 +1,7 @@
 -- What was gathered of the rows that a list shows.
-use Rattle.std.specs.Prelude.{ℕ, List, Option}
+use Rattle.std.specs.Prelude.{ℕ, List, [], ◌∷◌, Option}
 use Rattle.std.specs.List.{AllByRecursion}
-use Rattle.office_tables_shelf.specs.Cells.{Cell}
+use Rattle.office_tables_shelf.specs.Cells.{Cell, null}
 use Rattle.office_tables_shelf.specs.Content.{Content}
 use Rattle.office_tables_shelf.specs.declared.rows.Table.{Table}
 use Rattle.office_tables_statements.specs.Tables.{ListsRows}
@@ -15,3 +15,8 @@ pub record Gathers {X G : Type 0} (holds : G → List X → Type 0) (t : Table)
   pub held : holds found records
   pub within : AllByRecursion IsWithin records
   pub lists : ListsRows t key_of columns_of tables whose records
+
+-- the first of these cells
+abbrev pub first_cell : List Cell → Cell
+first_cell [] = null
+first_cell (cell ∷ more) = cell

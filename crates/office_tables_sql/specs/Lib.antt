@@ -1,12 +1,3 @@
 pub mod Gathers
-pub mod Texts
-pub mod IntersectionTexts
-pub mod PartTexts
-pub mod DeliveryTexts
-pub mod InspectionTexts
-pub mod UsedTexts
-pub mod OrderTexts
-pub mod TimingTexts
-pub mod DraftTexts
 pub mod Version
 pub mod Promises

@@ -1,9 +1,12 @@
 -- What a call that may fail promises of a connection, by the state that it found and the one that it left.
-use Rattle.std.specs.Prelude.{◌≡◌, Bool, Result, Some, IsTrue, IfOk, OnOk, OnErr}
+use Rattle.std.specs.Prelude.{◌≡◌, Result, Some, OnOk, OnErr}
 use Rattle.sqlite.specs.Effect.{IsDatabase}
+use Rattle.sqlite.specs.Held.{state}
 use Rattle.sqlite.specs.State.{State, HasCleanDisk}
 use Rattle.sqlite.specs.Tree.{Trees}
-use Rattle.office_tables_statements.specs.Calls.{IsHonest, IsReady}
+use Rattle.sqlite.specs.declared.transaction.Transaction.{Transaction}
+use Rattle.sqlite_trees.specs.declared.store.Store.{Ghosts}
+use Rattle.office_tables_statements.specs.Calls.{IsHonest, IsReady, StandsOn, TurnsTo}
 use Rattle.office_tables_shelf.specs.Content.{Content}
 use Rattle.office_tables_statements.specs.Schema.{office_schema}
 use Rattle.office_tables_statements.specs.Stored.{content_now, content_of}
@@ -12,6 +15,13 @@ use Rattle.office_tables_sql.specs.Version.{version_in, current_version}
 -- a step of a transaction that succeeds on a clean disk found the disk clean and the database open
 abbrev pub WasHonest : {A E : Type 0} → Result A E → State → State → Type 0
 WasHonest result old new = HasCleanDisk new → OnOk result (IsHonest old)
+
+-- a step of a transaction that makes this of the content
+pub record Turns {S A E : Type 0} (g : Ghosts S) (result : Result A E) (next : Content → Content) (old new : Transaction S) : Type 0 where
+  pub same_reference : new.conn.ghost_name ≡ old.conn.ghost_name
+  pub turned : TurnsTo result (next (content_now (state g old.conn.now))) (state g old.conn.now) (state g new.conn.now)
+  pub honest : WasHonest result (state g old.conn.now) (state g new.conn.now)
+  pub stands : StandsOn (state g old.conn.now) (state g new.conn.now)
 
 -- a step that succeeds on a clean disk leaves the transaction ready, if it found it ready
 abbrev pub StaysReady : {A E : Type 0} → Result A E → State → State → Type 0

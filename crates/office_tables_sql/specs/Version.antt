@@ -1,5 +1,5 @@
 -- The version that an office's tables store, and what it is today and was first.
-use Rattle.std.specs.Prelude.{◌≡◌, ◌≢◌, ℕ, ℤ, List, [], ◌∷◌, pos, Option, Some}
+use Rattle.std.specs.Prelude.{◌≡◌, ℕ, List, [], ◌∷◌, pos, Option, Some}
 use Rattle.std.specs.FinMap.{get}
 use Rattle.sqlite.specs.Effect.{IsDatabase}
 use Rattle.sqlite.specs.Order.{Row}
@@ -8,7 +8,7 @@ use Rattle.office_tables_shelf.specs.Cells.{Cell, number}
 use Rattle.office_tables_shelf.specs.Content.{Content}
 use Rattle.office_tables_statements.specs.Schema.{office_schema}
 use Rattle.office_tables_statements.specs.Layout as layout
-use Rattle.office_tables_statements.specs.Stored.{cells, content_of, rows_in}
+use Rattle.office_tables_statements.specs.Stored.{content_of, rows_in}
 
 -- the version that rows of `office_version` store, if they store one: the cells under the number 1
 abbrev pub version_of : List Row → Option (List Cell)
@@ -36,12 +36,6 @@ pub record AreToday (trees : Trees) : Type 0 where
 -- lead
 abbrev pub first_version : List Cell
 first_version = number (pos 1) ∷ []
-
--- the row shows one number, which is another than this version
-pub record TellsOther (row : Row) (version : ℕ) : Type 0 where
-  pub told : ℤ
-  pub is : cells row ≡ number told ∷ []
-  pub other : told ≢ pos version
 
 -- the trees are those of the office's tables, hold this content, and store today's version
 pub record Completes (tables : Content) (trees : Trees) : Type 0 where

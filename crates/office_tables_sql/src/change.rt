@@ -6,7 +6,7 @@ ghost use Rattle.sqlite.specs.Held.{state};
 ghost use Rattle.office_tables_shelf.specs.Change.{changed, changed_by};
 ghost use Rattle.office_tables_statements.specs.Stored.{content_now};
 ghost use Rattle.office_tables_statements.specs.Calls.{IsHonest, IsOffice, StandsOn, TurnsTo};
-ghost use Rattle.office_tables_sql.specs.Promises.{WasHonest, KeepsVersion, HoldUnder};
+ghost use Rattle.office_tables_sql.specs.Promises.{KeepsVersion, HoldUnder, Turns};
 
 use crate::{draft, part, stored_row};
 use office_tables_shelf::rows::RowChange;
@@ -21,13 +21,7 @@ fn change_row<S: Alter>(
     tx: &mut Transaction<'_, S>,
     change: &RowChange,
 ) -> Result<(), SqlFault>
-    ensures same_reference { tx.new.conn.ghost_name ≡ tx.old.conn.ghost_name }
-    ensures changed { TurnsTo result
-        (changed (content_now (state S.Store tx.old.conn.now)) change.now)
-        (state S.Store tx.old.conn.now) (state S.Store tx.new.conn.now) }
-    ensures honest { WasHonest result (state S.Store tx.old.conn.now)
-        (state S.Store tx.new.conn.now) }
-    ensures stands { StandsOn (state S.Store tx.old.conn.now) (state S.Store tx.new.conn.now) }
+    ensures { Turns S.Store result (λ tables. changed tables change.now) tx.old tx.new }
 {
     match change {
         RowChange::AddIntersection(id, row) => stored_row::add(alloc, tx, *id, row),

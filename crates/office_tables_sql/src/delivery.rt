@@ -11,20 +11,10 @@ use sqlite::Row;
 use sqlite::types::{ToSql, ValueRef};
 use std::alloc::Global;
 
-const LIST: &str = "SELECT part, number, day, amount FROM delivery ORDER BY part, number";
-
-const FIND: &str = "SELECT part, number, day, amount FROM delivery WHERE part = ?1 AND number = ?2";
-
-const UPDATE: &str = "UPDATE delivery SET day = ?3, amount = ?4 WHERE part = ?1 AND number = ?2";
-
-pub(crate) const INSERT: &str =
-    "INSERT INTO delivery (part, number, day, amount) VALUES (?1, ?2, ?3, ?4)";
-
 impl StoredRow for Delivery {
     ghost use Rattle.cabinet_core.specs.Within.{IsDeliveryWithin};
     ghost use Rattle.office_tables_shelf.specs.CabinetRows.{delivery_key, delivery_columns};
     ghost use Rattle.office_tables_shelf.specs.declared.rows.Table.TheVariants as table;
-    ghost use Rattle.office_tables_sql.specs.DeliveryTexts as facts;
 
     type Of = ();
 
@@ -38,20 +28,12 @@ impl StoredRow for Delivery {
 
     ghost is_within = { IsDeliveryWithin };
 
-    ghost texts = { facts.table_texts };
-
-    ghost lists = { λ _. facts.lists_rows };
-
-    ghost means = { facts.means };
-
-    ghost fits = { λ _ delivery. facts.fits delivery };
-
     fn texts() -> Texts {
         Texts {
-            list: LIST,
-            find: FIND,
-            update: UPDATE,
-            insert: INSERT,
+            list: "SELECT part, number, day, amount FROM delivery ORDER BY part, number",
+            find: "SELECT part, number, day, amount FROM delivery WHERE part = ?1 AND number = ?2",
+            update: "UPDATE delivery SET day = ?3, amount = ?4 WHERE part = ?1 AND number = ?2",
+            insert: "INSERT INTO delivery (part, number, day, amount) VALUES (?1, ?2, ?3, ?4)",
         }
     }
 

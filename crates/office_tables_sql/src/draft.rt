@@ -1,14 +1,11 @@
 //! The table `draft`: the changes that a draft keeps.
 
-ghost use Rattle.std.specs.Prelude.{◌≡◌, [], ◌∷◌, Some, IfOk, OnOk};
-ghost use Rattle.sqlite.specs.Held.{state};
-ghost use Rattle.sqlite.specs.State.{HasCleanDisk};
+ghost use Rattle.std.specs.Prelude.{◌≡◌, [], ◌∷◌, Some, IfOk};
 ghost use Rattle.sqlite.specs.Values.{bound_value};
 ghost use Rattle.sqlite_value.specs.Value.{owned};
 ghost use Rattle.office_tables_shelf.specs.Rows.{draft_columns};
-ghost use Rattle.office_tables_statements.specs.Calls.{IsHonest, StandsOn, TurnsTo};
-ghost use Rattle.office_tables_statements.specs.Stored.{content_now};
 ghost use Rattle.office_tables_statements.specs.Tables.{drop_in, values_of};
+ghost use Rattle.office_tables_sql.specs.Promises.{Turns};
 
 use crate::stored_row::{StoredRow, Texts, TimingKeyed};
 use office_tables_shelf::rows::Table;
@@ -21,20 +18,6 @@ use signal_records::{Change, InterId, NoMemory, changed_key};
 use sqlite::types::{ToSql, ValueRef};
 use sqlite::{Alter, Row as SqlRow, Transaction, params};
 use std::alloc::Global;
-
-const LIST: &str =
-    "SELECT inter, kind, a, b, body FROM draft WHERE inter = ?1 ORDER BY inter, kind, a, b";
-
-const FIND: &str = "SELECT inter, kind, a, b, body FROM draft \
-     WHERE inter = ?1 AND kind = ?2 AND a = ?3 AND b = ?4";
-
-const UPDATE: &str =
-    "UPDATE draft SET body = ?5 WHERE inter = ?1 AND kind = ?2 AND a = ?3 AND b = ?4";
-
-pub(crate) const INSERT: &str =
-    "INSERT INTO draft (inter, kind, a, b, body) VALUES (?1, ?2, ?3, ?4, ?5)";
-
-const REMOVE: &str = "DELETE FROM draft WHERE inter = ?1 AND kind = ?2 AND a = ?3 AND b = ?4";
 
 const DROP: &str = "DELETE FROM draft WHERE inter = ?1";
 
@@ -61,7 +44,6 @@ impl StoredRow for Change {
     ghost use Rattle.signal_records.specs.Within.{IsChangeWithin, current_limits};
     ghost use Rattle.office_tables_shelf.specs.Rows.{draft_key, draft_columns};
     ghost use Rattle.office_tables_shelf.specs.declared.rows.Table.TheVariants as table;
-    ghost use Rattle.office_tables_sql.specs.DraftTexts as facts;
 
     type Of = InterId;
 
@@ -75,20 +57,15 @@ impl StoredRow for Change {
 
     ghost is_within = { IsChangeWithin current_limits };
 
-    ghost texts = { facts.table_texts };
-
-    ghost lists = { facts.lists_rows };
-
-    ghost means = { facts.means };
-
-    ghost fits = { facts.fits };
-
     fn texts() -> Texts {
         Texts {
-            list: LIST,
-            find: FIND,
-            update: UPDATE,
-            insert: INSERT,
+            list: "SELECT inter, kind, a, b, body FROM draft WHERE inter = ?1 \
+                ORDER BY inter, kind, a, b",
+            find: "SELECT inter, kind, a, b, body FROM draft \
+                WHERE inter = ?1 AND kind = ?2 AND a = ?3 AND b = ?4",
+            update: "UPDATE draft SET body = ?5 \
+                WHERE inter = ?1 AND kind = ?2 AND a = ?3 AND b = ?4",
+            insert: "INSERT INTO draft (inter, kind, a, b, body) VALUES (?1, ?2, ?3, ?4, ?5)",
         }
     }
 
@@ -103,6 +80,7 @@ impl StoredRow for Change {
         Ok(Change::Put(found))
     }
 
+    #[tactic(auto, using(crate::proofs::Taken::takes_change))]
     fn bind<'a>(
         &'a self,
         alloc: Global,
@@ -124,22 +102,15 @@ impl TimingKeyed for Change {
 
     ghost keyed = { λ id key. (refl, refl) };
 
-    #[tactic(auto, using(crate::specs::DraftTexts::removes))]
     fn remove_text() -> &'static str {
-        REMOVE
+        "DELETE FROM draft WHERE inter = ?1 AND kind = ?2 AND a = ?3 AND b = ?4"
     }
 }
 
 /// Removes all draft rows of the intersection, if there are any. `Store` means that the database
 /// refused, `NoMemory` that a growth was refused.
 pub fn drop_all<S: Alter>(tx: &mut Transaction<'_, S>, id: InterId) -> Result<(), SqlFault>
-    ensures same_reference { tx.new.conn.ghost_name ≡ tx.old.conn.ghost_name }
-    ensures dropped { TurnsTo result
-        (drop_in (content_now (state S.Store tx.old.conn.now)) Table.Draft id)
-        (state S.Store tx.old.conn.now) (state S.Store tx.new.conn.now) }
-    ensures honest { HasCleanDisk (state S.Store tx.new.conn.now) →
-        OnOk result (IsHonest (state S.Store tx.old.conn.now)) }
-    ensures stands { StandsOn (state S.Store tx.old.conn.now) (state S.Store tx.new.conn.now) }
+    ensures { Turns S.Store result (λ tables. drop_in tables Table.Draft id) tx.old tx.new }
 {
     write(tx, DROP, params![id.get()])?;
     Ok(())

@@ -22,24 +22,9 @@ use sqlite::{Alter, Connection, Row, params};
 use std::alloc::Global;
 use std::collections::BTreeMap;
 
-const LIST: &str = "SELECT inter, number, day, clerk, body FROM inspection WHERE inter = ?1 \
-     ORDER BY inter, number";
-
-const WALK: &str = "SELECT inter, number, day, clerk, body FROM inspection ORDER BY inter, number";
-
-const FIND: &str =
-    "SELECT inter, number, day, clerk, body FROM inspection WHERE inter = ?1 AND number = ?2";
-
-const UPDATE: &str =
-    "UPDATE inspection SET day = ?3, clerk = ?4, body = ?5 WHERE inter = ?1 AND number = ?2";
-
-pub(crate) const INSERT: &str =
-    "INSERT INTO inspection (inter, number, day, clerk, body) VALUES (?1, ?2, ?3, ?4, ?5)";
-
 impl StoredRow for Inspection {
     ghost use Rattle.cabinet_core.specs.Within.{IsInspectionWithin};
     ghost use Rattle.office_tables_shelf.specs.declared.rows.Table.TheVariants as table;
-    ghost use Rattle.office_tables_sql.specs.InspectionTexts as facts;
 
     type Of = InterId;
 
@@ -53,20 +38,16 @@ impl StoredRow for Inspection {
 
     ghost is_within = { IsInspectionWithin };
 
-    ghost texts = { facts.table_texts };
-
-    ghost lists = { facts.lists_rows };
-
-    ghost means = { facts.means };
-
-    ghost fits = { facts.fits };
-
     fn texts() -> Texts {
         Texts {
-            list: LIST,
-            find: FIND,
-            update: UPDATE,
-            insert: INSERT,
+            list: "SELECT inter, number, day, clerk, body FROM inspection \
+                WHERE inter = ?1 ORDER BY inter, number",
+            find: "SELECT inter, number, day, clerk, body FROM inspection \
+                WHERE inter = ?1 AND number = ?2",
+            update: "UPDATE inspection SET day = ?3, clerk = ?4, body = ?5 \
+                WHERE inter = ?1 AND number = ?2",
+            insert: "INSERT INTO inspection (inter, number, day, clerk, body) \
+                VALUES (?1, ?2, ?3, ?4, ?5)",
         }
     }
 
@@ -101,16 +82,12 @@ impl StoredRow for Inspection {
 
 impl WalkedRow for Inspection {
     ghost use Rattle.std.specs.Prelude.{refl};
-    ghost use Rattle.office_tables_sql.specs.InspectionTexts as facts;
-
-    ghost walk = { facts.walk };
-
-    ghost walks = { facts.walks };
 
     ghost begins = { λ _ _. refl };
 
+    #[tactic(auto, unfolding(sqlite_tied::specs::Compute::everything))]
     fn walk_text() -> &'static str {
-        WALK
+        "SELECT inter, number, day, clerk, body FROM inspection ORDER BY inter, number"
     }
 }
 

@@ -2,21 +2,17 @@
 
 ghost use Rattle.std.specs.Prelude.{◌≡◌, ◌≢◌, pos, length, Option, None, IfOk, IfSome};
 ghost use Rattle.sqlite.specs.Order.{column};
-ghost use Rattle.sqlite.specs.Held.{state};
 ghost use Rattle.sqlite.specs.Values.{bound_value};
 ghost use Rattle.sqlite_value.specs.Value.{owned};
 ghost use Rattle.signal_values.specs.Words.{AreWords};
 ghost use Rattle.signal_records.specs.declared.state.Holder.{Holder};
 ghost use Rattle.signal_records.specs.declared.state.Stage.{Stage};
 ghost use Rattle.office_tables_shelf.specs.Cells.{number};
-ghost use Rattle.office_tables_shelf.specs.Rows.{stage_number, state_number, owner_cell, IsIntersectionRow};
-ghost use Rattle.office_tables_shelf.specs.Shelf.{ReadsIntersection};
-ghost use Rattle.office_tables_shelf.specs.Damage.{HasDamagedIntersection};
-ghost use Rattle.office_tables_statements.specs.Stored.{cell_of, content_now};
-ghost use Rattle.office_tables_statements.specs.Calls.{IsHonest, IsOffice, Keeps, TellsOpen};
+ghost use Rattle.office_tables_shelf.specs.Rows.{stage_number, state_number, owner_cell};
+ghost use Rattle.office_tables_statements.specs.Stored.{cell_of};
 ghost use Rattle.office_tables_statements.specs.Tables.{value_of};
 
-use crate::stored_row::{StoredRow, Texts, WalkedRow, find};
+use crate::stored_row::{StoredRow, Texts, WalkedRow};
 use office_tables_shelf::rows::IntersectionRow;
 use office_tables_shelf::shelf::ShelfFault;
 use office_tables_statements::listed::check_number;
@@ -25,25 +21,13 @@ use office_tables_statements::value::{
 };
 use signal_records::state::{Holder, Stage};
 use signal_records::{InterId, NoMemory, Words};
+use sqlite::Row;
 use sqlite::types::{ToSql, ValueRef};
-use sqlite::{Alter, Connection, Row, params};
 use std::alloc::Global;
-
-const LIST: &str = "SELECT id, name, days, revision, state, owner FROM intersection ORDER BY id";
-
-const FIND: &str = "SELECT id, name, days, revision, state, owner FROM intersection WHERE id = ?1";
-
-const UPDATE: &str =
-    "UPDATE intersection SET name = ?2, days = ?3, revision = ?4, state = ?5, owner = ?6 \
-     WHERE id = ?1";
-
-pub(crate) const INSERT: &str = "INSERT INTO intersection (id, name, days, revision, state, owner) \
-     VALUES (?1, ?2, ?3, ?4, ?5, ?6)";
 
 impl StoredRow for IntersectionRow {
     ghost use Rattle.office_tables_shelf.specs.Rows.{intersection_key, intersection_columns, IsIntersectionRow};
     ghost use Rattle.office_tables_shelf.specs.declared.rows.Table.TheVariants as table;
-    ghost use Rattle.office_tables_sql.specs.IntersectionTexts as facts;
 
     type Of = InterId;
 
@@ -57,20 +41,14 @@ impl StoredRow for IntersectionRow {
 
     ghost is_within = { IsIntersectionRow };
 
-    ghost texts = { facts.table_texts };
-
-    ghost lists = { λ _. facts.lists_rows };
-
-    ghost means = { facts.means };
-
-    ghost fits = { λ id row. facts.fits id row.name row.interval row.revision row.holder };
-
     fn texts() -> Texts {
         Texts {
-            list: LIST,
-            find: FIND,
-            update: UPDATE,
-            insert: INSERT,
+            list: "SELECT id, name, days, revision, state, owner FROM intersection ORDER BY id",
+            find: "SELECT id, name, days, revision, state, owner FROM intersection WHERE id = ?1",
+            update: "UPDATE intersection SET name = ?2, days = ?3, revision = ?4, state = ?5, \
+                owner = ?6 WHERE id = ?1",
+            insert: "INSERT INTO intersection (id, name, days, revision, state, owner) \
+                VALUES (?1, ?2, ?3, ?4, ?5, ?6)",
         }
     }
 
@@ -88,6 +66,7 @@ impl StoredRow for IntersectionRow {
         })
     }
 
+    #[tactic(auto, using(crate::proofs::Taken::takes_holder))]
     fn bind<'a>(
         &'a self,
         alloc: Global,
@@ -106,36 +85,12 @@ impl StoredRow for IntersectionRow {
 
 impl WalkedRow for IntersectionRow {
     ghost use Rattle.std.specs.Prelude.{refl};
-    ghost use Rattle.office_tables_sql.specs.IntersectionTexts as facts;
-
-    ghost walk = { facts.table_texts.list };
-
-    ghost walks = { facts.lists_rows };
 
     ghost begins = { λ _ _. refl };
 
     fn walk_text() -> &'static str {
-        LIST
+        "SELECT id, name, days, revision, state, owner FROM intersection ORDER BY id"
     }
-}
-
-/// The row of an intersection, if there is one. `Damaged` means that it is no record, `Store` that
-/// the database refused, `NoMemory` that a growth was refused.
-pub fn read<S: Alter>(
-    alloc: Global,
-    conn: &mut Connection<S>,
-    id: InterId,
-) -> Result<Option<IntersectionRow>, ShelfFault>
-    requires { IsOffice (state S.Store conn.old) }
-    ensures row { IfOk result (λ row. IsHonest (state S.Store conn.new) →
-        ReadsIntersection (content_now (state S.Store conn.old)) id row) }
-    ensures within { IfOk result (λ row. IfSome row IsIntersectionRow) }
-    ensures damaged { result ≡ Err ShelfFault.Damaged → IsHonest (state S.Store conn.new) →
-        HasDamagedIntersection (content_now (state S.Store conn.old)) id }
-    ensures kept { Keeps (state S.Store conn.old) (state S.Store conn.new) }
-    ensures open { TellsOpen result (state S.Store conn.new) }
-{
-    find(alloc, conn, id, params![id.get()])
 }
 
 /// Who holds the draft, by the state in column 4 and the owner in column 5. State 0 is Normal, and

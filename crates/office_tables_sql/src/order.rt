@@ -28,28 +28,9 @@ use sqlite::{Alter, Connection, Row, params};
 use std::alloc::Global;
 use std::collections::BTreeMap;
 
-const LIST: &str =
-    "SELECT inter, number, opened, clerk, body, closed, closer FROM work_order WHERE inter = ?1 \
-     ORDER BY inter, number";
-
-const WALK: &str = "SELECT inter, number, opened, clerk, body, closed, closer \
-    FROM work_order ORDER BY inter, number";
-
-const FIND: &str = "SELECT inter, number, opened, clerk, body, closed, closer \
-    FROM work_order WHERE inter = ?1 AND number = ?2";
-
-const UPDATE: &str =
-    "UPDATE work_order SET opened = ?3, clerk = ?4, body = ?5, closed = ?6, closer = ?7 \
-     WHERE inter = ?1 AND number = ?2";
-
-pub(crate) const INSERT: &str =
-    "INSERT INTO work_order (inter, number, opened, clerk, body, closed, closer) \
-     VALUES (?1, ?2, ?3, ?4, ?5, ?6, ?7)";
-
 impl StoredRow for Order {
     ghost use Rattle.cabinet_core.specs.Within.{IsOrderWithin};
     ghost use Rattle.office_tables_shelf.specs.declared.rows.Table.TheVariants as table;
-    ghost use Rattle.office_tables_sql.specs.OrderTexts as facts;
 
     type Of = InterId;
 
@@ -63,21 +44,16 @@ impl StoredRow for Order {
 
     ghost is_within = { IsOrderWithin };
 
-    ghost texts = { facts.table_texts };
-
-    ghost lists = { facts.lists_rows };
-
-    ghost means = { facts.means };
-
-    ghost fits = { λ id order.
-        facts.fits id order.number order.opened order.clerk order.text order.closing };
-
     fn texts() -> Texts {
         Texts {
-            list: LIST,
-            find: FIND,
-            update: UPDATE,
-            insert: INSERT,
+            list: "SELECT inter, number, opened, clerk, body, closed, closer \
+                FROM work_order WHERE inter = ?1 ORDER BY inter, number",
+            find: "SELECT inter, number, opened, clerk, body, closed, closer \
+                FROM work_order WHERE inter = ?1 AND number = ?2",
+            update: "UPDATE work_order SET opened = ?3, clerk = ?4, body = ?5, closed = ?6, \
+                closer = ?7 WHERE inter = ?1 AND number = ?2",
+            insert: "INSERT INTO work_order (inter, number, opened, clerk, body, closed, closer) \
+                VALUES (?1, ?2, ?3, ?4, ?5, ?6, ?7)",
         }
     }
 
@@ -97,6 +73,7 @@ impl StoredRow for Order {
         })
     }
 
+    #[tactic(auto, using(crate::proofs::Taken::takes_closing))]
     fn bind<'a>(
         &'a self,
         alloc: Global,
@@ -116,16 +93,13 @@ impl StoredRow for Order {
 
 impl WalkedRow for Order {
     ghost use Rattle.std.specs.Prelude.{refl};
-    ghost use Rattle.office_tables_sql.specs.OrderTexts as facts;
-
-    ghost walk = { facts.walk };
-
-    ghost walks = { facts.walks };
 
     ghost begins = { λ _ _. refl };
 
+    #[tactic(auto, unfolding(sqlite_tied::specs::Compute::everything))]
     fn walk_text() -> &'static str {
-        WALK
+        "SELECT inter, number, opened, clerk, body, closed, closer FROM work_order \
+            ORDER BY inter, number"
     }
 }
 

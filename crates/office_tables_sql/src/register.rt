@@ -6,9 +6,8 @@ ghost use Rattle.office_tables_shelf.specs.Places.{BlamesAt, GivesAt, IsOfPlace,
 ghost use Rattle.office_tables_statements.specs.Stored.{content_now};
 ghost use Rattle.office_tables_statements.specs.Calls.{IsHonest, IsOffice, Keeps, TellsOpen};
 
-use crate::part::hand;
 use crate::stored_row::find;
-use cabinet_core::{Delivery, Inspection, Order, UsedLine};
+use cabinet_core::{Delivery, Hand, Inspection, Order, PartCode, UsedLine};
 use office_tables_shelf::register::{RegisterKey, RegisterRecord};
 use office_tables_shelf::shelf::ShelfFault;
 use sqlite::{Alter, Connection, params};
@@ -47,8 +46,11 @@ pub fn record_at<S: Alter>(
             Ok(found.map(RegisterRecord::Line))
         }
         RegisterKey::Part(part) => {
-            let found = hand(alloc, conn, part)?;
-            Ok(found.map(RegisterRecord::Part))
+            let found: Option<(PartCode, Hand)> = find(alloc, conn, (), params![part.as_str()])?;
+            match found {
+                Some(part) => Ok(Some(RegisterRecord::Part(part.1))),
+                None => Ok(None),
+            }
         }
         RegisterKey::Delivery(part, number) => {
             let key = params![part.as_str(), number.get()];

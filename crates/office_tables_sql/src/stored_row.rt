@@ -1,7 +1,6 @@
 //! Rows of the office's tables as records: found, put, added and removed, each by one fixed text.
 
-ghost use Rattle.std.specs.Prelude.{◌≡◌, ◌++◌, ℕ, pos, List, length, Option, None, IfOk, IfSome, OnOk};
-ghost use Rattle.sqlite.specs.State.{HasCleanDisk};
+ghost use Rattle.std.specs.Prelude.{◌≡◌, ◌++◌, ℕ, true, pos, List, length, Option, None, IfOk, IfSome};
 ghost use Rattle.sqlite.specs.Held.{state};
 ghost use Rattle.sqlite.specs.Values.{bound};
 ghost use Rattle.signal_records.specs.declared.key.Key.{Key};
@@ -9,9 +8,10 @@ ghost use Rattle.office_tables_shelf.specs.Cells.{Cell, number};
 ghost use Rattle.office_tables_shelf.specs.Rows.{timing_key};
 ghost use Rattle.office_tables_shelf.specs.declared.rows.Table.{Table};
 ghost use Rattle.office_tables_statements.specs.Stored.{content_now};
-ghost use Rattle.office_tables_statements.specs.Calls.{IsHonest, IsOffice, Keeps, TurnsTo, StandsOn, StaysOpen, TellsOpen};
-ghost use Rattle.office_tables_statements.specs.Tables.{put_in, remove_in, key_values, key_shown, columns_shown, width_of, key_given, IsKeyOf, IsUnder, ReadsRow, HasDamagedUnder, IsNoRow, IsListText, IsRemoveText, Fits, values_of};
-ghost use Rattle.office_tables_sql.specs.Texts.{SqlTexts, AreTextsOf, first_cell};
+ghost use Rattle.office_tables_statements.specs.Calls.{IsHonest, IsOffice, Keeps, StaysOpen, TellsOpen};
+ghost use Rattle.office_tables_statements.specs.Tables.{put_in, remove_in, key_values, key_shown, columns_shown, width_of, key_given, IsKeyOf, IsUnder, ReadsRow, HasDamagedUnder, IsNoRow, IsListText, IsFindText, IsUpdateText, IsInsertText, IsRemoveText, takes, values_of};
+ghost use Rattle.office_tables_sql.specs.Gathers.{first_cell};
+ghost use Rattle.office_tables_sql.specs.Promises.{Turns};
 
 use office_tables_shelf::shelf::ShelfFault;
 use office_tables_statements::statement::{SqlFault, select_one, write};
@@ -52,14 +52,13 @@ pub trait StoredRow: Sized + Drop {
     ghost columns: { Self → List Cell };
     /// The record is within its limits.
     ghost is_within: { Self → Type 0 };
-    /// The texts of the statements on the table.
-    ghost texts: { SqlTexts };
 
+    /// The statements of SQL on the table.
     fn texts() -> Texts
-        ensures list { result.list.now ≡ texts.list }
-        ensures find { result.find.now ≡ texts.find }
-        ensures update { result.update.now ≡ texts.update }
-        ensures insert { result.insert.now ≡ texts.insert };
+        ensures list { (of : Self.Of) → IsListText table (whose of) result.list.now }
+        ensures find { IsFindText table result.find.now }
+        ensures update { IsUpdateText table result.update.now }
+        ensures insert { IsInsertText table result.insert.now };
 
     /// The record for which a row stands that the list or the query of a key shows. `Damaged` means
     /// that it stands for none, `NoMemory` that a growth was refused.
@@ -80,26 +79,16 @@ pub trait StoredRow: Sized + Drop {
         of: Self::Of,
         text: &'a mut String,
     ) -> Result<Vec<ValueRef<'a>>, NoMemory>
-        ensures { IfOk result (λ values.
-            bound values.items ≡ values_of (key of self.now ++ columns self.now)) };
-
-    ghost lists: { (of : Self.Of) → IsListText table (whose of) texts.list };
-
-    ghost means: { AreTextsOf table texts };
-
-    ghost fits: { (of : Self.Of) (x : Self) → Fits table (key of x) (columns x) };
+        ensures bound { IfOk result (λ values.
+            bound values.items ≡ values_of (key of self.now ++ columns self.now)) }
+        ensures taken { takes table (key of self.now) (columns self.now) ≡ true };
 }
 
 /// A record of one intersection, of which a walk shows those of all intersections.
 pub trait WalkedRow: StoredRow<Of = InterId> {
-    /// The text of the query that walks.
-    ghost walk: { List ℕ };
-
     /// The query of the rows of all intersections, in the order of their keys.
     fn walk_text() -> &'static str
-        ensures { result.now ≡ walk };
-
-    ghost walks: { IsListText Self.table None walk };
+        ensures { IsListText Self.table None result.now };
 
     ghost begins: { (id : ℕ) (x : Self) → first_cell (Self.key id x) ≡ number (pos id) };
 }
@@ -119,18 +108,6 @@ impl<T: WalkedRow> StoredRow for (InterId, T) {
     ghost columns = { λ e. T.columns e.1 };
 
     ghost is_within = { IsOfOne T.is_within };
-
-    ghost texts = { record T.texts { list = T.walk } };
-
-    ghost lists = { λ _. T.walks };
-
-    ghost means = { record {
-      finds = T.means.finds;
-      updates = T.means.updates;
-      inserts = T.means.inserts;
-    } };
-
-    ghost fits = { λ _ e. T.fits e.0 e.1 };
 
     fn texts() -> Texts {
         Texts {
@@ -215,14 +192,8 @@ pub fn put<T: StoredRow, S: Alter>(
     of: T::Of,
     row: &T,
 ) -> Result<(), SqlFault>
-    ensures same_reference { tx.new.conn.ghost_name ≡ tx.old.conn.ghost_name }
-    ensures put { TurnsTo result
-        (put_in (content_now (state S.Store tx.old.conn.now)) T.table
-        (T.key of row.now) (T.columns row.now))
-        (state S.Store tx.old.conn.now) (state S.Store tx.new.conn.now) }
-    ensures honest { HasCleanDisk (state S.Store tx.new.conn.now) →
-        OnOk result (IsHonest (state S.Store tx.old.conn.now)) }
-    ensures stands { StandsOn (state S.Store tx.old.conn.now) (state S.Store tx.new.conn.now) }
+    ensures { Turns S.Store result (λ tables. put_in tables T.table
+        (T.key of row.now) (T.columns row.now)) tx.old tx.new }
 {
     let mut text = String::new(alloc);
     let Ok(values) = row.bind(alloc, of, &mut text) else {
@@ -230,9 +201,10 @@ pub fn put<T: StoredRow, S: Alter>(
     };
     let texts = T::texts();
     let changed = write(tx, texts.update, values.as_slice())?;
-    if changed == 0 {
-        write(tx, texts.insert, values.as_slice())?;
+    if changed > 0 {
+        return Ok(());
     }
+    write(tx, texts.insert, values.as_slice())?;
     Ok(())
 }
 
@@ -244,14 +216,8 @@ pub fn add<T: StoredRow, S: Alter>(
     of: T::Of,
     row: &T,
 ) -> Result<(), SqlFault>
-    ensures same_reference { tx.new.conn.ghost_name ≡ tx.old.conn.ghost_name }
-    ensures added { TurnsTo result
-        (put_in (content_now (state S.Store tx.old.conn.now)) T.table
-        (T.key of row.now) (T.columns row.now))
-        (state S.Store tx.old.conn.now) (state S.Store tx.new.conn.now) }
-    ensures honest { HasCleanDisk (state S.Store tx.new.conn.now) →
-        OnOk result (IsHonest (state S.Store tx.old.conn.now)) }
-    ensures stands { StandsOn (state S.Store tx.old.conn.now) (state S.Store tx.new.conn.now) }
+    ensures { Turns S.Store result (λ tables. put_in tables T.table
+        (T.key of row.now) (T.columns row.now)) tx.old tx.new }
 {
     let mut text = String::new(alloc);
     let Ok(values) = row.bind(alloc, of, &mut text) else {
@@ -268,14 +234,8 @@ pub fn remove<T: TimingKeyed, S: Alter>(
     id: InterId,
     key: &Key,
 ) -> Result<(), SqlFault>
-    ensures same_reference { tx.new.conn.ghost_name ≡ tx.old.conn.ghost_name }
-    ensures removed { TurnsTo result
-        (remove_in (content_now (state S.Store tx.old.conn.now)) T.table
-        (timing_key id key.now))
-        (state S.Store tx.old.conn.now) (state S.Store tx.new.conn.now) }
-    ensures honest { HasCleanDisk (state S.Store tx.new.conn.now) →
-        OnOk result (IsHonest (state S.Store tx.old.conn.now)) }
-    ensures stands { StandsOn (state S.Store tx.old.conn.now) (state S.Store tx.new.conn.now) }
+    ensures { Turns S.Store result (λ tables. remove_in tables T.table
+        (timing_key id key.now)) tx.old tx.new }
 {
     let kind = key.kind();
     let first = key.first();

@@ -18,21 +18,7 @@ use sqlite::types::{ToSql, ValueRef};
 use sqlite::{Alter, Connection, Row as SqlRow, params};
 use std::alloc::Global;
 
-const LIST: &str =
-    "SELECT inter, kind, a, b, body FROM timing WHERE inter = ?1 ORDER BY inter, kind, a, b";
-
-const FIND: &str = "SELECT inter, kind, a, b, body FROM timing \
-     WHERE inter = ?1 AND kind = ?2 AND a = ?3 AND b = ?4";
-
 const COUNT: &str = "SELECT count(*) FROM timing WHERE inter = ?1";
-
-const UPDATE: &str =
-    "UPDATE timing SET body = ?5 WHERE inter = ?1 AND kind = ?2 AND a = ?3 AND b = ?4";
-
-pub(crate) const INSERT: &str =
-    "INSERT INTO timing (inter, kind, a, b, body) VALUES (?1, ?2, ?3, ?4, ?5)";
-
-const REMOVE: &str = "DELETE FROM timing WHERE inter = ?1 AND kind = ?2 AND a = ?3 AND b = ?4";
 
 /// How many rows the intersection's committed set has, whether or not each of them is a record.
 /// `Store` means that the database refused, `NoMemory` that a growth was refused.
@@ -57,7 +43,6 @@ impl StoredRow for Row {
     ghost use Rattle.signal_records.specs.Within.{IsRowWithin, current_limits};
     ghost use Rattle.office_tables_shelf.specs.Rows.{timing_key, timing_columns};
     ghost use Rattle.office_tables_shelf.specs.declared.rows.Table.TheVariants as table;
-    ghost use Rattle.office_tables_sql.specs.TimingTexts as facts;
 
     type Of = InterId;
 
@@ -71,20 +56,15 @@ impl StoredRow for Row {
 
     ghost is_within = { IsRowWithin current_limits };
 
-    ghost texts = { facts.table_texts };
-
-    ghost lists = { facts.lists_rows };
-
-    ghost means = { facts.means };
-
-    ghost fits = { facts.fits };
-
     fn texts() -> Texts {
         Texts {
-            list: LIST,
-            find: FIND,
-            update: UPDATE,
-            insert: INSERT,
+            list: "SELECT inter, kind, a, b, body FROM timing WHERE inter = ?1 \
+                ORDER BY inter, kind, a, b",
+            find: "SELECT inter, kind, a, b, body FROM timing \
+                WHERE inter = ?1 AND kind = ?2 AND a = ?3 AND b = ?4",
+            update: "UPDATE timing SET body = ?5 \
+                WHERE inter = ?1 AND kind = ?2 AND a = ?3 AND b = ?4",
+            insert: "INSERT INTO timing (inter, kind, a, b, body) VALUES (?1, ?2, ?3, ?4, ?5)",
         }
     }
 
@@ -120,8 +100,7 @@ impl TimingKeyed for Row {
 
     ghost keyed = { λ id key. (refl, refl) };
 
-    #[tactic(auto, using(crate::specs::TimingTexts::removes))]
     fn remove_text() -> &'static str {
-        REMOVE
+        "DELETE FROM timing WHERE inter = ?1 AND kind = ?2 AND a = ?3 AND b = ?4"
     }
 }

@@ -13,22 +13,9 @@ use sqlite::Row;
 use sqlite::types::{ToSql, ValueRef};
 use std::alloc::Global;
 
-const LIST: &str = "SELECT inter, ord, line, part, amount FROM used_part WHERE inter = ?1 \
-     ORDER BY inter, ord, line";
-
-const FIND: &str = "SELECT inter, ord, line, part, amount FROM used_part \
-     WHERE inter = ?1 AND ord = ?2 AND line = ?3";
-
-const UPDATE: &str =
-    "UPDATE used_part SET part = ?4, amount = ?5 WHERE inter = ?1 AND ord = ?2 AND line = ?3";
-
-pub(crate) const INSERT: &str =
-    "INSERT INTO used_part (inter, ord, line, part, amount) VALUES (?1, ?2, ?3, ?4, ?5)";
-
 impl StoredRow for UsedLine {
     ghost use Rattle.cabinet_core.specs.Within.{IsUsedLineWithin};
     ghost use Rattle.office_tables_shelf.specs.declared.rows.Table.TheVariants as table;
-    ghost use Rattle.office_tables_sql.specs.UsedTexts as facts;
 
     type Of = InterId;
 
@@ -42,20 +29,16 @@ impl StoredRow for UsedLine {
 
     ghost is_within = { IsUsedLineWithin };
 
-    ghost texts = { facts.table_texts };
-
-    ghost lists = { facts.lists_rows };
-
-    ghost means = { facts.means };
-
-    ghost fits = { facts.fits };
-
     fn texts() -> Texts {
         Texts {
-            list: LIST,
-            find: FIND,
-            update: UPDATE,
-            insert: INSERT,
+            list: "SELECT inter, ord, line, part, amount FROM used_part WHERE inter = ?1 \
+                ORDER BY inter, ord, line",
+            find: "SELECT inter, ord, line, part, amount FROM used_part \
+                WHERE inter = ?1 AND ord = ?2 AND line = ?3",
+            update: "UPDATE used_part SET part = ?4, amount = ?5 \
+                WHERE inter = ?1 AND ord = ?2 AND line = ?3",
+            insert: "INSERT INTO used_part (inter, ord, line, part, amount) \
+                VALUES (?1, ?2, ?3, ?4, ?5)",
         }
     }
 

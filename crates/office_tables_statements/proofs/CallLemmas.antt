@@ -6,10 +6,10 @@ use Rattle.sqlite.specs.State.{State, HasCleanDisk, Survives, CommitsShowing, Is
 use Rattle.sqlite_schema.specs.declared.command.Returning.{Returning}
 use Rattle.sqlite_trees.specs.declared.store.Store as store
 use Rattle.office_tables_statements.specs.Schema.{office_schema}
-use Rattle.office_tables_statements.specs.Calls.{AreOrdered, IsHonest, IsOffice, IsReady, Keeps, IsQuery, Reads, IsWriting, Ran, StandsOn, command_of}
+use Rattle.office_tables_statements.specs.Calls.{AreOrdered, IsHonest, IsOffice, IsReady, IsStatement, Keeps, Reads, Ran, StandsOn, command_of}
 use Rattle.sqlite.proofs.Callers.{reads_as, runs_as, survives_begin, begins_shown, EndsIn}
 use Rattle.sqlite.proofs.StateLemmas.{survives_then, survives_weaker}
-use Rattle.office_tables_statements.proofs.Returning.{never_returns}
+use Rattle.office_tables_statements.proofs.{Meaning.is_command, Meaning.is_plain, Meaning.is_unlisted, Returning.never_returns}
 use Rattle.std.specs.List.{AllByRecursion}
 use Rattle.std.proofs.lemmas.List.{map-append}
 use Rattle.sqlite_rules.specs.Lists.{Has}
@@ -85,19 +85,19 @@ same_self : (s : State) → IsTrue s.is_open → IsUnchanged s s
 same_self s opened = (record { was_open = opened; is_open = opened; now_is = refl; committed_is = refl; mode = refl }, record { changes = refl; last_rowid = refl }, refl)
 
 -- a query commits nothing, whatever the tables are
-never_commits : (sql : List ℕ) → IsQuery sql → (params : Row) (s : State) (db : Trees) → ¬ CommitsShowing sql params s db
+never_commits : (sql : List ℕ) → IsStatement sql → (params : Row) (s : State) (db : Trees) → ¬ CommitsShowing sql params s db
 unfolding CommitsShowing
-never_commits sql query params s db h = never_returns office_schema s.now.schema sql query.plain (subst Returns (sym h.1.is) h.2)
+never_commits sql query params s db h = never_returns office_schema s.now.schema sql (is_plain sql query.0 query.1) (subst Returns (sym h.1.is) h.2)
 
 -- a query over the office's tables
-module _ (sql : List ℕ) (query : IsQuery sql) (old : State) (office : IsOffice old) where
+module _ (sql : List ℕ) (query : IsStatement sql) (old : State) (office : IsOffice old) where
   module _ (params : Row) (new : State) (then : Survives old new (CommitsShowing sql params old)) (after : new.in_transaction ≡ false) where
     pub queried_survives : Survives old new (λ _. ⊥)
     queried_survives = survives_weaker old new (CommitsShowing sql params old) (λ _. ⊥) (λ clean db. never_commits sql query params old db) then
 
     pub queried_keeps : (rows : List Row) → (HasCleanDisk new → Shown sql params old new rows) → Keeps old new
     queried_keeps rows h = keeps old new office queried_survives after (λ honest. (shown_open sql params old new rows (h honest.0)).0)
-        (λ honest has. inl (shown_unchanged sql params old new rows (subst (λ s. IsPlain (understood s sql)) (sym has) query.plain) (h honest.0)))
+        (λ honest has. inl (shown_unchanged sql params old new rows (subst (λ s. IsPlain (understood s sql)) (sym has) (is_plain sql query.0 query.1)) (h honest.0)))
 
     pub unqueried_keeps : (e : Error) → (HasCleanDisk new → FailsToQuery sql params old new e) → Keeps old new
     unqueried_keeps e h = keeps old new office queried_survives after
@@ -105,12 +105,12 @@ module _ (sql : List ℕ) (query : IsQuery sql) (old : State) (office : IsOffice
 
     pub queried_reads : (rows : List Row) → (HasCleanDisk new → Shown sql params old new rows) → IsHonest new → Reads sql params old.now rows
     queried_reads rows h honest =
-        reads_as sql params old new office_schema (office.schema ((queried_keeps rows h).honest honest)) _ refl query.plain query.unlisted rows (h honest.0)
+        reads_as sql params old new office_schema (office.schema ((queried_keeps rows h).honest honest)) _ refl (is_plain sql query.0 query.1) (is_unlisted sql query.0 query.1) rows (h honest.0)
 
   -- whose rows are read one at a time
   pub starts : {S : Type 0} (g : store.Ghosts S) (params : Row) (was now : Held S) → HasBegun g sql params was now → HasGiven g sql params now [] × IsUnchanged (state g was) (state g now)
   starts g params was now (inl h) = h
-  starts g params was now (inr h) = absurd (never_returns office_schema was.schema sql query.plain h.0)
+  starts g params was now (inr h) = absurd (never_returns office_schema was.schema sql (is_plain sql query.0 query.1) h.0)
 
   -- at some row
   module _ (mid : State) (survives : Survives old mid (λ _. ⊥)) (mode : mid.in_transaction ≡ false) (same : HasCleanDisk mid → IsUnchanged old mid) where
@@ -136,7 +136,7 @@ module _ (sql : List ℕ) (query : IsQuery sql) (old : State) (office : IsOffice
     pub all_read : (params : Row) (new : State) → doubt mid.is_clean ≤ doubt new.is_clean → (rows : List Row) → (HasCleanDisk new → Shown sql params mid new rows) → IsHonest new → Reads sql params old.now rows
     all_read params new clean rows shown honest =
         let early : HasCleanDisk mid = omega (arith, honest.0, clean) in
-        subst (λ (d : Database). Reads sql params d rows) (same early).0.now_is (reads_as sql params mid new office_schema (known early) _ refl query.plain query.unlisted rows (shown honest.0))
+        subst (λ (d : Database). Reads sql params d rows) (same early).0.now_is (reads_as sql params mid new office_schema (known early) _ refl (is_plain sql query.0 query.1) (is_unlisted sql query.0 query.1) rows (shown honest.0))
 
     -- the rows so far are the first of an answer
     pub some_read : (params : Row) (t : Table) (whose : Option ℕ) → IsListText t whose sql → IsHonest mid → (rows : List Row) → Begins sql params mid rows → (tail : List Row) × Reads sql params old.now (rows ++ tail)
@@ -144,18 +144,11 @@ module _ (sql : List ℕ) (query : IsQuery sql) (old : State) (office : IsOffice
         let has = known honest.0 in
         let whole = begins_shown sql params mid mid rows begins (same_self mid honest.1) (λ c db it source.
         let is : Ok c ≡ understood office_schema sql = sym it.is ∙ ap (λ s. understood s sql) has in
-        let command : c.command ≡ _ = ap command_of is ∙ means.is in
+        let command : c.command ≡ _ = ap command_of is ∙ is_command sql _ means in
         subst (λ k. EndsIn k db (timed params c.formats it.now)) (sym command) tt) in
-        (whole.0, subst (λ (d : Database). Reads sql params d (rows ++ whole.0)) (same honest.0).0.now_is (reads_as sql params mid mid office_schema has _ refl query.plain query.unlisted (rows ++ whole.0) whole.1))
+        (whole.0, subst (λ (d : Database). Reads sql params d (rows ++ whole.0)) (same honest.0).0.now_is (reads_as sql params mid mid office_schema has _ refl (is_plain sql query.0 query.1) (is_unlisted sql query.0 query.1) (rows ++ whole.0) whole.1))
 
 -- ---- inside a transaction
-
-pub stands : (old new : State) → Survives old new (λ _. ⊥) → (IsHonest new → IsUndisturbed old new) → StandsOn old new
-stands old new crash h = record {
-  honest = λ honest. (omega (arith, honest.0, crash.clean), (undisturbed_kept old new (h honest)).0 honest.1);
-  committed = λ honest. (undisturbed_kept old new (h honest)).1 honest.1;
-  crash = crash;
-}
 
 pub stands_then : (a b c : State) → StandsOn a b → StandsOn b c → StandsOn a c
 stands_then a b c one two = record { honest = λ h. one.honest (two.honest h); committed = λ h. two.committed h ∙ one.committed (two.honest h); crash = survives_on a b c one.crash two.crash }
@@ -168,8 +161,8 @@ module _ (held : ℕ) (sql : List ℕ) (params : Row) (old new : State) (crash :
     crash = crash;
   }
 
-  pub ran : (count : ℕ) → IsWriting sql → ExecutesInside held sql params old new (Ok count) → Ran sql params old new count
-  ran count plain h = record { was_open = h.1.was_open; inside = rw h.1.mode; runs = λ has. runs_as sql params old new office_schema has _ refl plain count h.0 }
+  pub ran : (count : ℕ) → IsStatement sql → ExecutesInside held sql params old new (Ok count) → Ran sql params old new count
+  ran count means h = record { was_open = h.1.was_open; inside = rw h.1.mode; runs = λ has. runs_as sql params old new office_schema has _ refl (is_plain sql means.0 means.1) count h.0 }
 
 -- a transaction over the office's tables whose commit fails is undone
 module _ (old mid new : State) (office : IsOffice old) (stands : StandsOn old mid) (clean : doubt mid.is_clean ≤ doubt new.is_clean) (inside : HasCleanDisk mid → IsHonest old → mid.in_transaction ≡ true)

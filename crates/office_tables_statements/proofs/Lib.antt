@@ -2,6 +2,7 @@ mod CheckLemmas
 pub mod StoredLemmas
 pub mod QueryLemmas
 pub mod SoundLemmas
+pub mod Meaning
 mod Returning
 pub mod CallLemmas
 pub mod WriteLemmas
@@ -13,6 +14,7 @@ pub mod KeyReading
 pub mod ListedLemmas
 pub mod TableLemmas
 pub mod Casts
+mod Fits
 mod UpdateLemmas
 pub mod StoredLists
 pub mod StoredPuts

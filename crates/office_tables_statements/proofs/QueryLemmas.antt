@@ -4,16 +4,16 @@ use Rattle.std.specs.{Option.option_to_list, List.Sorted.IsPermutation, List.lis
 use Rattle.sqlite.proofs.Callers.{one_permutation}
 use Rattle.std.proofs.lemmas.{Bool.cases_Bool, List.length-map}
 use Rattle.std.proofs.lemmas.List.Sorted.{IsPermutation-map, length_permutation}
-use Rattle.sqlite.specs.{Order.Row, Order.column, Tree.Trees, Collation.TheVariants.Binary, Term.Term, Term.Env, Term.col, Term.op2, Term.holds, Term.eval_all, Query.inner, Query.end, Query.IsAnswer, Query.output, Query.Output, Query.matches, declared.types.Value.TheVariants.Null, Command.Command, Listing.understood, Command.TheVariants.Select, Given.IsPlain, Effect.Database, View.IsShaped, Program.overlay}
+use Rattle.sqlite.specs.{Order.Row, Order.column, Tree.Trees, Collation.TheVariants.Binary, Term.Term, Term.Env, Term.col, Term.op2, Term.holds, Term.eval_all, Query.inner, Query.end, Query.IsAnswer, Query.output, Query.Output, Query.matches, declared.types.Value.TheVariants.Null, Command.TheVariants.Select, Effect.Database, View.IsShaped, Program.overlay}
 use Rattle.sqlite_sql.specs.declared.ops.{BinaryOp.TheVariants.Compare, CompareOp.TheVariants.Eq}
 use Rattle.sqlite_schema.specs.Rules.{agree}
 use Rattle.sqlite_value.specs.Keys.{plain, first_key}
 use Rattle.sqlite_rules.specs.Lists.{Has}
 use Rattle.sqlite_trees.proofs.ListLemmas.{map-map}
-use Rattle.office_tables_statements.specs.{Layout.Layout, Layout.values_at, Layout.has_key, Tables.of_key, Tables.found_by, Tables.picked_by, Tables.picked_where, Calls.IsQuery, Calls.Reads, Calls.command_of}
+use Rattle.office_tables_statements.specs.{Layout.Layout, Layout.values_at, Layout.has_key, Tables.of_key, Tables.found_by, Tables.picked_by, Tables.picked_where, Calls.Means, Calls.Reads}
 use Rattle.sqlite.specs.Effect as effect
 use Rattle.sqlite_trees.specs.declared.store.Shape.TheVariants as shape
-use Rattle.office_tables_statements.specs.Schema.{office_schema}
+use Rattle.office_tables_statements.proofs.Meaning.{is_command}
 
 -- the columns at these places
 abbrev pub cols : List ℕ → List Term
@@ -102,27 +102,17 @@ module _ {X Y : Type 0} (p : X → Bool) (v : X → Y) where
       go (x ∷ z ∷ more) None same = absurd (omega (arith, length_permutation (map v (x ∷ z ∷ more)) [] same))
       go (x ∷ z ∷ more) (Some y) same = absurd (omega (arith, length_permutation (map v (x ∷ z ∷ more)) (y ∷ []) same))
 
--- the text is this query
-pub record IsRead (sql : List ℕ) (command : Command) : Type 0 where
-  pub is : command_of (understood office_schema sql) ≡ command
-  pub query : IsQuery sql
-
--- the text is this write
-pub record IsWrite (sql : List ℕ) (command : Command) : Type 0 where
-  pub is : command_of (understood office_schema sql) ≡ command
-  pub plain : IsPlain (understood office_schema sql)
-
 -- ---- what a look-up by key finds
 
 module _ (t : Layout) (paired : ArePaired t.keys t.places) (shown : List ℕ) (sql : List ℕ)
-    (names : List (List ℕ)) (is : command_of (understood office_schema sql)
-    ≡ Select (record { lets = []; body = found_by t shown }) names) (key : Row) (db : Database)
+    (names : List (List ℕ)) (means : Means sql (Select (record { lets = []; body = found_by t shown }) names))
+    (key : Row) (db : Database)
     (rows : List Row) (low : overlay db.trees [] t.tree ≡ rows) (row : Option Row)
     (reads : Reads sql key db (option_to_list row)) where
   -- the row that is shown is the one that has the key
   pub found_by_key : row ≡ option_map (values_at shown) (find (has_key t key) rows)
   found_by_key =
-      let got = subst (λ k. effect.Reads k db key (option_to_list row)) is reads in
+      let got = subst (λ k. effect.Reads k db key (option_to_list row)) (is_command sql _ means) reads in
       let same = answers t paired shown key (overlay db.trees []) (option_to_list row) (got.answer Null) in
       one_found (has_key t key) (values_at shown) rows row (subst (λ rs. IsPermutation (map (values_at shown) (filter (has_key t key) rs)) (option_to_list row)) low same)
 

@@ -13,11 +13,11 @@ use Rattle.sqlite_rules.specs.{Calls.ids_of, Lists.Has}
 use Rattle.sqlite_rules.proofs.ListLemmas.{all_has, all_from, has_filtered, has_kept}
 use Rattle.sqlite_rules.proofs.{ProbeLemmas.has_mapped, ProbeLemmas.mapped_has, TableLemmas.int_is, TableLemmas.without_all_has}
 use Rattle.office_tables_statements.specs.Schema.{office_schema}
-use Rattle.office_tables_statements.specs.{Layout.Layout, Layout.values_at, Layout.has_key, Stored.cells_at, Stored.rows_in, Stored.are_sound, Calls.IsReady, Calls.Ran, Tables.found_by}
+use Rattle.office_tables_statements.specs.{Layout.Layout, Layout.values_at, Layout.has_key, Stored.cells_at, Stored.rows_in, Stored.are_sound, Calls.IsReady, Calls.Means, Calls.Ran, Tables.found_by}
 use Rattle.office_tables_shelf.specs.Cells.{Cell, TableRows, cells_cmp}
 use Rattle.office_tables_shelf.proofs.CellLemmas.{cells_total, cells_exact, tied}
 use Rattle.office_tables_statements.proofs.StoredLemmas.{agree_ties, has_cells, get_rows, HaveKeys}
-use Rattle.office_tables_statements.proofs.QueryLemmas.{ArePaired, answers, IsWrite}
+use Rattle.office_tables_statements.proofs.QueryLemmas.{ArePaired, answers}
 use Rattle.office_tables_statements.proofs.WriteLemmas.{IsIdle, went_on, same_value, shaped_without, wrote}
 use Rattle.office_tables_statements.proofs.ContentLemmas.{find_without, left_without, one_rowid}
 
@@ -127,7 +127,7 @@ pub record Loses (test : Row → Bool) (tree : ℕ) (old new : Trees) : Type 0 w
 
 module _ (table : Table) (at : ℕ) (place : slice_get office_schema.tables at ≡ Some table)
     (idle : IsIdle office_schema table) (sql : List ℕ) (query : Query)
-    (is : IsWrite sql (Delete at (record { lets = []; body = query }))) (params : Row) where
+    (is : Means sql (Delete at (record { lets = []; body = query }))) (params : Row) where
   -- that are what the query shows
   pub loses : (old new : State) (count : ℕ) (test : Row → Bool)
       → ((found : List Row) → IsAnswer query (overlay old.now.trees []) params found
@@ -160,7 +160,7 @@ pub record RemovesIn (t : Layout) (tree : ℕ) (key : Row) (old new : Trees) : T
   pub others : AllByRecursion (λ x. x.tree ≢ tree → new x.tree ≡ old x.tree) office_schema.tables
 
 module _ (t : Layout) (paired : ArePaired t.keys t.places) (table : Table) (at : ℕ) (place : slice_get office_schema.tables at ≡ Some table) (low : (trees : Trees) → overlay trees [] t.tree ≡ trees table.tree)
-    (idle : IsIdle office_schema table) (sql : List ℕ) (is : IsWrite sql (Delete at (record { lets = []; body = found_by t (0 ∷ []) }))) (key : Row) (whole : are_sound t.places key ≡ true) where
+    (idle : IsIdle office_schema table) (sql : List ℕ) (is : Means sql (Delete at (record { lets = []; body = found_by t (0 ∷ []) }))) (key : Row) (whole : are_sound t.places key ≡ true) where
   pub remove_keyed : (old new : State) (count : ℕ) → IsShaped shape.Table (old.now.trees table.tree) → HaveKeys t (old.now.trees table.tree) → IsReady old → Ran sql key old new count → IsReady new × RemovesIn t table.tree key old.now.trees new.now.trees
   remove_keyed old new count was keys ready did =
       let db = old.now.trees in

@@ -12,10 +12,10 @@ use Rattle.office_tables_shelf.specs.{Cells.Cell, Cells.cells_cmp, Cells.number,
 use Rattle.office_tables_statements.specs.{Calls.AreOrdered, Calls.Reads, Layout.values_at, Layout.has_key}
 use Rattle.office_tables_statements.specs.Stored.{cells_at, rows_in, content_of, cells, cell_of}
 use Rattle.office_tables_shelf.specs.declared.rows.Table.TheVariants as table
-use Rattle.office_tables_statements.specs.Tables.{rows_at, layout_at, schema_at, key_shown, columns_shown, row_shown, width_of, filter_of, of_first, params_of, is_among, rows_among, listed_by, IsListText, IsNoRow, HasDamagedRow, places_of, key_given, IsKeyOf, IsUnder, IsFindText, count_grouping, counted_by, IsCountText}
+use Rattle.office_tables_statements.specs.Tables.{names_of, rows_at, layout_at, schema_at, key_shown, columns_shown, row_shown, width_of, filter_of, of_first, params_of, is_among, rows_among, listed_by, IsListText, IsNoRow, HasDamagedRow, places_of, key_given, IsKeyOf, IsUnder, IsFindText, count_grouping, counted_by, IsCountText}
 use Rattle.office_tables_statements.specs.Schema.{office_schema}
 use Rattle.office_tables_statements.proofs.StoredLemmas.{HaveKeys, same_order, sound_rowids, agree_ties, get_columns}
-use Rattle.office_tables_statements.proofs.{SoundLemmas.sound_keys, ListedLemmas.distinct_keys, ListedLemmas.distinct_rising, ListedLemmas.is_in}
+use Rattle.office_tables_statements.proofs.{Meaning.is_command, SoundLemmas.sound_keys, ListedLemmas.distinct_keys, ListedLemmas.distinct_rising, ListedLemmas.is_in}
 use Rattle.office_tables_statements.proofs.ListedLemmas.{unique_by, listing, shown_width, counted, distinct_kept}
 use Rattle.office_tables_statements.proofs.TableLemmas.{same_tree, is_listed, is_low, OwnKey, facts, passes, among, listing_of, rows_in_tree, in_tree}
 use Rattle.office_tables_statements.proofs.QueryLemmas.{Passes, found_by_key, has_width, matched}
@@ -96,7 +96,7 @@ module _ (t : Table) (db : Database) (is : db.schema ≡ office_schema) (sound :
     answer : IsAnswer (listed_by (layout_at t) (filter_of t whose)) (overlay db.trees [])
         (params_of whose) shown
     answer =
-        let got = subst (λ k. effect.Reads k db (params_of whose) shown) means.is reads in
+        let got = subst (λ k. effect.Reads k db (params_of whose) shown) (is_command sql _ means) reads in
         got.answer Null
 
     keys_there : HaveKeys (layout_at t) (overlay db.trees [] (layout_at t).tree)
@@ -149,7 +149,7 @@ module _ (t : Table) (db : Database) (is : db.schema ≡ office_schema) (sound :
     -- the number that is shown is that of the rows of the intersection
     pub counts : (row : Row) → Reads sql params db (row ∷ []) → (n : ℕ) → n < 2 ^ 32 → cell_of (column row 0) ≡ number (pos n) → n ≡ length (rows_of id (rows_at (content_of db.trees) t))
     counts row reads n low is_n =
-        let got = subst (λ k. effect.Reads k db params (row ∷ [])) means.is reads in
+        let got = subst (λ k. effect.Reads k db params (row ∷ [])) (is_command sql _ means) reads in
         let it = count_shown rows (Some row) seen (got.answer Null) in
         let same : row ∷ [] ≡ (count (length it.0) ∷ []) ∷ [] = it.2 in
         let here : cell_of (column row 0) ≡ number (pos (min (length it.0) 9223372036854775807)) = ap (λ (rs : List Row). first_cell rs) same in
@@ -184,12 +184,12 @@ module _ (t : Table) (db : Database) (is : db.schema ≡ office_schema) (sound :
     pub finds : (row : Option Row) → Reads sql key db (option_to_list row) → IsUnder t (content_of db.trees) (key_given t key) row
     finds row reads =
         let hit = find (has_key (layout_at t) key) rows in
-        let at = found_by_key (layout_at t) (facts t).paired (places_of t) sql means.names means.is key
+        let at = found_by_key (layout_at t) (facts t).paired (places_of t) sql (names_of t) means key
         db rows seen row reads in
         record {
           stored = ap (option_map (columns_shown t)) at ∙ stored hit ∙ sym (get_columns (layout_at t) rows key own_keys given) ∙ ap (λ m. get m (key_given t key)) (sym (in_tree t db.trees));
           keyed = subst (λ o. IfSome o (λ row. key_shown t row ≡ key_given t key)) (sym at) (named hit refl);
-          wide = has_width (layout_at t) (facts t).paired (places_of t) sql means.names means.is key db rows seen row reads;
+          wide = has_width (layout_at t) (facts t).paired (places_of t) sql (names_of t) means key db rows seen row reads;
         }
 
 -- a shown row that is no record

@@ -1,5 +1,5 @@
 -- The statements that put and remove rows, and what they make of the tables.
-use Rattle.std.proofs.Common.{◌≡◌, ◌≢◌, ℕ, List, [], ◌∷◌, ◌++◌, map, filter, length, pos, refl, sym, ap, subst, ◌∙◌}
+use Rattle.std.proofs.Common.{◌≡◌, ◌≢◌, true, ℕ, List, [], ◌∷◌, ◌++◌, map, filter, length, pos, refl, sym, ap, subst, ◌∙◌}
 use Rattle.std.specs.{FinMap.insert, FinMap.remove, Cmp.eq_by_cmp_equiv, List.AllByRecursion, List.IsDistinct, List.Sorted.IsPermutation, Ordering.eq_by_cmp}
 use Rattle.sqlite.specs.{declared.types.Value.TheVariants.Null, declared.types.Value.TheVariants.Int, Cast.cast_row, Edit.with_rowid, Rowids.TheVariants.Chosen, Order.Row, Program.overlay, Query.IsAnswer, Rows.Written, State.State, Term.col, Term.eval_all}
 use Rattle.sqlite.specs.Kind.TheVariants as kind
@@ -8,9 +8,9 @@ use Rattle.office_tables_shelf.specs.{Cells.Cell, Cells.TableRows, Cells.cells_c
 use Rattle.office_tables_shelf.proofs.CellLemmas.{cells_total}
 use Rattle.office_tables_statements.specs.{Calls.IsReady, Calls.IsTurned, Calls.Ran, Layout.has_key, Layout.values_at}
 use Rattle.office_tables_statements.specs.Stored.{cells_at, content_now, rows_in}
-use Rattle.office_tables_statements.specs.Tables.{beside_rowid, id_given, row_given, source_at, rows_at, with_rows, layout_at, schema_at, place_at, renewed_at, put_in, remove_in, key_given, values_of, IsKeyOf, IsUpdateText, IsInsertText, IsRemoveText, Fits, of_first, drop_in, picked_where, IsDropText}
+use Rattle.office_tables_statements.specs.Tables.{beside_rowid, id_given, source_at, rows_at, with_rows, layout_at, schema_at, place_at, renewed_at, put_in, remove_in, key_given, values_of, IsKeyOf, IsUpdateText, IsInsertText, IsRemoveText, takes, of_first, drop_in, picked_where, IsDropText}
 use Rattle.office_tables_statements.specs.Schema.{office_schema}
-use Rattle.office_tables_statements.proofs.{Casts.cast_one, Casts.cast_suited, ContentLemmas.put_at, ContentLemmas.put_apart, WriteLemmas.Added, WriteLemmas.adds, WriteLemmas.went_on, WriteLemmas.same_value, WriteLemmas.wrote, QueryLemmas.picked, QueryLemmas.where_picked, RemoveLemmas.dropped_rows, RemoveLemmas.loses, RemoveLemmas.remove_keyed, UpdateLemmas.Renewed, UpdateLemmas.renews, TableLemmas.each, TableLemmas.is_placed, TableLemmas.is_low}
+use Rattle.office_tables_statements.proofs.{Fits.Fits, Fits.fits as fits_taken, Fits.row_given, Casts.cast_one, Casts.cast_suited, ContentLemmas.put_at, ContentLemmas.put_apart, WriteLemmas.Added, WriteLemmas.adds, WriteLemmas.went_on, WriteLemmas.same_value, WriteLemmas.wrote, QueryLemmas.picked, QueryLemmas.where_picked, RemoveLemmas.dropped_rows, RemoveLemmas.loses, RemoveLemmas.remove_keyed, UpdateLemmas.Renewed, UpdateLemmas.renews, TableLemmas.each, TableLemmas.is_placed, TableLemmas.is_low}
 use Rattle.office_tables_statements.proofs.TableLemmas.{is_uncounted, is_idle, facts, in_tree, same_tree, only_in, apart}
 use Rattle.office_tables_statements.proofs.StoredLists.{distinct, shaped, own_keys, seen}
 
@@ -29,7 +29,10 @@ turned old new t rows ready others is = record {
   version = others.1.1.1.1.1.1.1.1.0 (λ e. apart t (sym e));
 }
 
-module _ (t : Table) (key columns : List Cell) (fits : Fits t key columns) where
+module _ (t : Table) (key columns : List Cell) (taken : takes t key columns ≡ true) where
+  fits : Fits t key columns
+  fits = fits_taken t key columns taken
+
   abbrev tree : ℕ
   tree = (schema_at t).tree
 
@@ -43,7 +46,7 @@ module _ (t : Table) (key columns : List Cell) (fits : Fits t key columns) where
 
   pub updates : (sql : List ℕ) → IsUpdateText t sql → (old new : State) (count : ℕ) → IsReady old → Ran sql params old new count → Updated count old new
   updates sql means old new count ready did =
-      let did_write = wrote sql _ (record { is = means.is; plain = means.plain }) (place_at t) (schema_at t) (is_placed t) params old new count (record { runs = λ w. w; does = λ db out d. d }) ready did in
+      let did_write = wrote sql _ means (place_at t) (schema_at t) (is_placed t) params old new count (record { runs = λ w. w; does = λ db out d. d }) ready did in
       let asked = went_on did_write.rows in
       let edited = went_on asked.2 in
       let hits = picked (layout_at t) (facts t).paired (renewed_at t) params (λ row. eval_all (renewed_at t) (params ∷ row ∷ [])) (λ row. refl) (overlay old.now.trees []) asked.0 (asked.1.answer Null) in
@@ -62,7 +65,7 @@ module _ (t : Table) (key columns : List Cell) (fits : Fits t key columns) where
   pub inserts : (sql : List ℕ) → IsInsertText t sql → (old new : State) (count : ℕ) → IsReady old → Ran sql params old new count → IsTurned (put_in (content_now old) t key columns) old new
   inserts sql means old new count ready did =
       let rows = old.now.trees tree in
-      let did_write = wrote sql _ (record { is = means.is; plain = means.plain }) (place_at t) (schema_at t) (is_placed t) params old new count (record { runs = λ w. w; does = λ db out d. d }) ready did in
+      let did_write = wrote sql _ means (place_at t) (schema_at t) (is_placed t) params old new count (record { runs = λ w. w; does = λ db out d. d }) ready did in
       let given = row_given t key columns in
       let casts : cast_row (schema_at t) given ≡ given = λ i. cast_one kind.Integer (id_given t key) fits.numbered i ∷ cast_suited (schema_at t).columns (beside_rowid t null key ++ columns) fits.suits i in
       let it = subst (Added (schema_at t) (is_uncounted t) (is_idle t) (source_at t) params given old.step_limit old.now.trees) (sym did_write.trees)
@@ -98,7 +101,7 @@ module _ (t : Table) (key columns : List Cell) (fits : Fits t key columns) where
 pub removes : (t : Table) (sql : List ℕ) (means : IsRemoveText t sql) (key : Row) (given : IsKeyOf t key) (old new : State) (count : ℕ) → IsReady old → Ran sql key old new count
     → IsTurned (remove_in (content_now old) t (key_given t key)) old new
 removes t sql means key given old new count ready did =
-    let it = remove_keyed (layout_at t) (facts t).paired (schema_at t) (place_at t) (is_placed t) (λ trees. is_low t trees ∙ ap trees (same_tree t)) (is_idle t) sql (record { is = means.is; plain = means.plain }) key given
+    let it = remove_keyed (layout_at t) (facts t).paired (schema_at t) (place_at t) (is_placed t) (λ trees. is_low t trees ∙ ap trees (same_tree t)) (is_idle t) sql means key given
     old new count (shaped t old.now ready.schema ready.sound ready.ordered) (own_keys t old.now ready.schema ready.sound ready.ordered) ready did in
     turned old new t _ it.0 it.1.others (it.1.at ∙ ap (λ rows. remove rows (key_given t key)) (sym (in_tree t old.now.trees)))
 
@@ -123,7 +126,7 @@ drops t sql means id old new count ready did =
     answer) in
     let it = loses (schema_at t) (place_at t) (is_placed t) (is_idle t) sql
     (picked_where (layout_at t) (of_first t) (col 1 0 ∷ []))
-    (record { is = means.is; plain = means.plain }) params old new count test shows whole
+    means params old new count test shows whole
     ready did in
     let left = dropped_rows (layout_at t) rows (is_of id) it.1.found it.1.hits whole in
     turned old new t _ it.0 it.1.others (ap (rows_in (layout_at t)) it.1.left ∙ left

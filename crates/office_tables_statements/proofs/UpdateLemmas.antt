@@ -14,8 +14,9 @@ use Rattle.office_tables_shelf.specs.{Cells.Cell, Cells.cells_cmp, Cells.null, d
 use Rattle.office_tables_shelf.proofs.CellLemmas.{cells_exact, tied}
 use Rattle.office_tables_statements.specs.{Calls.AreOrdered, Layout.has_key, Layout.values_at}
 use Rattle.office_tables_statements.specs.Stored.{cell_of, cells_at, rows_in, is_sound, are_sound}
-use Rattle.office_tables_statements.specs.Tables.{layout_at, schema_at, is_keyed, beside_rowid, others_given, renewed_at, stored_beside, value_of, values_of, Fits}
+use Rattle.office_tables_statements.specs.Tables.{layout_at, schema_at, is_keyed, beside_rowid, others_given, renewed_at, value_of, values_of}
 use Rattle.office_tables_statements.specs.Schema.{office_schema}
+use Rattle.office_tables_statements.proofs.Fits.{Fits, stored_beside}
 use Rattle.office_tables_statements.proofs.{Casts.cast_int, Casts.cast_suited, ListedLemmas.distinct_kept, ContentLemmas.put_at, ContentLemmas.tie_self, QueryLemmas.cols, QueryLemmas.shown_values, RemoveLemmas.gone, RemoveLemmas.stays, RemoveLemmas.permuted, StoredLemmas.HaveKeys, StoredLemmas.agree_ties, StoredLemmas.has_cells, StoredLists.shaped, StoredLists.own_keys, StoredLists.distinct, WriteLemmas.shaped_without, TableLemmas.is_idle}
 
 -- ---- values and their cells

@@ -7,9 +7,9 @@ use Rattle.sqlite_rules.specs.Action.{works}
 use Rattle.sqlite_schema.specs.declared.schema.Keys.TheVariants.{Enforced}
 use Rattle.sqlite_trees.specs.declared.store.Shape.TheVariants as shape
 use Rattle.sqlite_trees.proofs.{ListLemmas.all_both, TreeLemmas.IsShaped-filter, TreeLemmas.IsShaped-put_row}
-use Rattle.office_tables_statements.specs.Calls.{IsReady, Ran, statement_of}
+use Rattle.office_tables_statements.specs.Calls.{IsReady, Means, Ran, statement_of}
 use Rattle.office_tables_statements.specs.Schema.{office_schema}
-use Rattle.office_tables_statements.proofs.QueryLemmas.{IsWrite}
+use Rattle.office_tables_statements.proofs.Meaning.{is_command}
 use Rattle.sqlite.proofs.Callers.{one_step}
 
 -- no foreign key acts on what a table loses
@@ -42,7 +42,7 @@ still_ordered tables tree db next was others now = all_both _ _ _ (λ t old same
 
 -- ---- a write
 
-module _ (sql : List ℕ) (command : Command) (is : IsWrite sql command) (at : ℕ) (table : Table) (place : slice_get office_schema.tables at ≡ Some table) (params : Row) (old new : State) (count : ℕ) where
+module _ (sql : List ℕ) (command : Command) (means : Means sql command) (at : ℕ) (table : Table) (place : slice_get office_schema.tables at ≡ Some table) (params : Row) (old new : State) (count : ℕ) where
   abbrev text : List ℕ
   text = statement_of sql (understood office_schema sql)
 
@@ -68,7 +68,7 @@ module _ (sql : List ℕ) (command : Command) (is : IsWrite sql command) (at : �
 
   pub wrote : IsOnRows → IsReady old → Ran sql params old new count → Wrote
   wrote on ready did =
-      let writes = on.runs (subst (λ c. Runs old new None c text params count) is.is (did.runs ready.schema)) in
+      let writes = on.runs (subst (λ c. Runs old new None c text params count) (is_command sql command means) (did.runs ready.schema)) in
       let does = subst (λ s. Does old.step_limit (mode_of old) params (record old.now { schema = s }) text None command (Ok (writes.tally, new.now))) ready.schema writes.changed in
       let db : Database = record { schema = office_schema; trees = old.now.trees } in
       let went = went_on (subst (λ o. AtPlace (λ x. OnRows (task x db) (mode_of old) None command db.trees) o (Ok (writes.tally, new.now))) place (on.does db _ does)) in

@@ -1,5 +1,5 @@
 -- What the calls of a shelf need of a connection and leave of it.
-use Rattle.std.specs.Prelude.{◌≡◌, ℕ, false, List, [], Result, Ok, Err, None, IsTrue, OnOk}
+use Rattle.std.specs.Prelude.{◌≡◌, ℕ, false, List, [], Option, Some, None, Result, Ok, Err, IsTrue, OnOk}
 use Rattle.std.specs.List.{AllByRecursion}
 use Rattle.sqlite.specs.Command.{Command}
 use Rattle.sqlite.specs.Command.TheVariants.{Nothing}
@@ -10,12 +10,13 @@ use Rattle.sqlite_trees.specs.declared.store.Store.{Ghosts}
 use Rattle.sqlite.specs.Order.{Row}
 use Rattle.sqlite.specs.Effect as effect
 use Rattle.sqlite.specs.Effect.{Database, IsDatabase}
-use Rattle.sqlite.specs.Given.{IsPlain}
 use Rattle.sqlite.specs.Held.{Held, state}
-use Rattle.sqlite.specs.Listing.{understood, reads_listing}
+use Rattle.sqlite.specs.Listing.{understood}
 use Rattle.sqlite.specs.State.{State, HasCleanDisk, Runs, Survives, text_of}
+use Rattle.sqlite_resolve.specs.Compile.{compiled}
 use Rattle.sqlite_resolve.specs.declared.compiled.Compiled.{Compiled}
 use Rattle.sqlite_resolve.specs.declared.error.CompileError.{CompileError}
+use Rattle.sqlite_schema.specs.declared.command.Returning.{Returning}
 use Rattle.office_tables_shelf.specs.Shelf.{IsTold}
 use Rattle.office_tables_shelf.specs.declared.shelf.ShelfFault.{ShelfFault}
 use Rattle.office_tables_shelf.specs.Content.{Content}
@@ -78,18 +79,27 @@ abbrev pub statement_of : List ℕ → Result Compiled CompileError → List ℕ
 statement_of sql (Ok c) = text_of sql c
 statement_of sql (Err e) = []
 
--- the text is understood over the office's tables and names no other, has no RETURNING, and does not read the time
-pub record IsQuery (sql : List ℕ) : Type 0 where
-  pub plain : IsPlain (understood office_schema sql)
-  pub unlisted : reads_listing office_schema sql ≡ false
+-- a command that has no RETURNING and does not read the time
+abbrev pub bare : Command → Option Returning → List (List ℕ) → Option Command
+bare command None [] = Some command
+bare command _ _ = None
+
+-- what was compiled is such a command
+abbrev pub bare_command : Result Compiled CompileError → Option Command
+bare_command (Ok c) = bare c.command c.returning c.formats
+bare_command (Err e) = None
+
+-- over the office's tables the text is this command, which has no RETURNING and does not read the time
+abbrev pub Means : List ℕ → Command → Type 0
+Means sql command = bare_command (compiled office_schema sql) ≡ Some command
+
+-- over the office's tables the text is some such command
+abbrev pub IsStatement : List ℕ → Type 0
+IsStatement sql = (command : Command) × Means sql command
 
 -- the rows are what the query of the text answers, with these parameters, over the database
 abbrev pub Reads : List ℕ → Row → Database → List Row → Type 0
 Reads sql params db rows = effect.Reads (command_of (understood office_schema sql)) db params rows
-
--- the text is understood over the office's tables, has no RETURNING, and does not read the time
-abbrev pub IsWriting : List ℕ → Type 0
-IsWriting sql = IsPlain (understood office_schema sql)
 
 -- the write of the text was made with these parameters on so many rows, in a transaction that goes on
 pub record Ran (sql : List ℕ) (params : Row) (old new : State) (count : ℕ) : Type 0 where

@@ -1,5 +1,6 @@
 -- The eight tables by their names: where each keeps its rows, and what its statements mean.
-use Rattle.std.specs.Prelude.{◌≡◌, ℕ, suc, ℤ, pos, negsuc, Bool, true, false, ◌&&◌, cond, List, [], ◌∷◌, ◌++◌, map, length, Option, Some, None, IfSome, Ok, is_none, slice_get, unwrap_or}
+use Rattle.std.specs.Prelude.{◌≡◌, ℕ, suc, pos, negsuc, Bool, true, false, ◌&&◌, cond, List, [], ◌∷◌, ◌++◌, map, length, Option, Some, None, IfSome, is_none, slice_get, unwrap_or, codes}
+use Rattle.std.specs.List.{list_all}
 use Rattle.std.specs.Option.{option_map}
 use Rattle.std.specs.FinMap.{get, entries}
 use Rattle.sqlite.specs.Command.TheVariants.{Select, Insert, Update, Delete}
@@ -7,17 +8,12 @@ use Rattle.sqlite.specs.Kind.{Kind}
 use Rattle.sqlite.specs.Kind.TheVariants as kind
 use Rattle.sqlite.specs.declared.types.Value.{Value}
 use Rattle.sqlite.specs.declared.types.Value.TheVariants.{Null, Int, Text}
-use Rattle.sqlite.specs.Edit.{with_rowid}
-use Rattle.sqlite.specs.Effect.{Database}
-use Rattle.sqlite.specs.Listing.{understood}
 use Rattle.sqlite.specs.Order.{Row}
 use Rattle.sqlite.specs.Query.{Query, inner, end}
-use Rattle.sqlite.specs.Rowids.TheVariants.{Chosen}
-use Rattle.sqlite.specs.Rows.{Sourced, stamped}
 use Rattle.sqlite.specs.Source.{Source}
 use Rattle.sqlite.specs.Source.TheVariants.{Values}
 use Rattle.sqlite.specs.Table.{Table as SqlTable}
-use Rattle.sqlite.specs.Term.{Term, lit, col, op2, eval_all}
+use Rattle.sqlite.specs.Term.{Term, lit, col, op2}
 use Rattle.sqlite.specs.Collation.TheVariants.{Binary}
 use Rattle.sqlite_schema.specs.declared.schema.Column.{Column}
 use Rattle.sqlite_sql.specs.Group.{Grouping}
@@ -34,11 +30,10 @@ pub use Rattle.office_tables_shelf.specs.Reads.{is_among, IsNoRow, HasDamagedRow
 use Rattle.office_tables_shelf.specs.Shelf.{rows_of}
 use Rattle.office_tables_shelf.specs.declared.rows.Table.{Table}
 use Rattle.office_tables_shelf.specs.declared.rows.Table.TheVariants as table
-use Rattle.office_tables_statements.specs.Calls.{IsQuery, IsWriting, command_of}
+use Rattle.office_tables_statements.specs.Calls.{Means}
 use Rattle.office_tables_statements.specs.Layout.{Layout, layout_of, places_from}
 use Rattle.office_tables_statements.specs.Schema as schema
-use Rattle.office_tables_statements.specs.Schema.{office_schema}
-use Rattle.office_tables_statements.specs.Stored.{cells_at, are_sound}
+use Rattle.office_tables_statements.specs.Stored.{cells_at, are_sound, is_sound}
 
 -- ---- where each table is
 
@@ -56,6 +51,10 @@ schema_at table.UsedPart = schema.used_part_table
 -- the layout of a table
 abbrev pub layout_at : Table → Layout
 layout_at t = layout_of (schema_at t)
+
+-- the names of its columns
+abbrev pub names_of : Table → List (List ℕ)
+names_of t = map (λ (c : Column). c.name) (schema_at t).columns
 
 -- the table has a PRIMARY KEY of its own, and does not keep its key as the rowid
 abbrev pub is_keyed : Table → Bool
@@ -144,11 +143,8 @@ listed_by t filter = record {
 }
 
 -- the text lists the rows of a table, of one intersection or all, in the order of their keys
-pub record IsListText (t : Table) (whose : Option ℕ) (sql : List ℕ) : Type 0 where
-  pub names : List (List ℕ)
-  pub is : command_of (understood office_schema sql)
-      ≡ Select (record { lets = []; body = listed_by (layout_at t) (filter_of t whose) }) names
-  pub query : IsQuery sql
+abbrev pub IsListText : Table → Option ℕ → List ℕ → Type 0
+IsListText t whose sql = Means sql (Select (record { lets = []; body = listed_by (layout_at t) (filter_of t whose) }) (names_of t))
 
 -- the grouping that counts the rows that pass a filter
 abbrev pub count_grouping : Grouping
@@ -169,11 +165,8 @@ counted_by t filter = record {
 }
 
 -- the text counts the rows of one intersection, which is its parameter, in a table
-pub record IsCountText (t : Table) (sql : List ℕ) : Type 0 where
-  pub names : List (List ℕ)
-  pub is : command_of (understood office_schema sql)
-      ≡ Select (record { lets = []; body = counted_by (layout_at t) (of_first t) }) names
-  pub query : IsQuery sql
+abbrev pub IsCountText : Table → List ℕ → Type 0
+IsCountText t sql = Means sql (Select (record { lets = []; body = counted_by (layout_at t) (of_first t) }) (codes "count(*)" ∷ []))
 
 -- the query that shows these terms of the rows that pass the filter
 abbrev pub picked_where : Layout → List Term → List Term → Query
@@ -198,10 +191,8 @@ abbrev pub found_by : Layout → List ℕ → Query
 found_by t shown = picked_by t (map (col 1) shown)
 
 -- the text shows the row whose key is the parameters, with the columns of the key first
-pub record IsFindText (t : Table) (sql : List ℕ) : Type 0 where
-  pub names : List (List ℕ)
-  pub is : command_of (understood office_schema sql) ≡ Select (record { lets = []; body = found_by (layout_at t) (places_of t) }) names
-  pub query : IsQuery sql
+abbrev pub IsFindText : Table → List ℕ → Type 0
+IsFindText t sql = Means sql (Select (record { lets = []; body = found_by (layout_at t) (places_of t) }) (names_of t))
 
 -- the values are parameters for the columns of a key, each an integer or a text
 abbrev pub IsKeyOf : Table → Row → Type 0
@@ -229,28 +220,20 @@ abbrev pub renewed_at : Table → List Term
 renewed_at t = col 1 0 ∷ col 1 0 ∷ (beside_rowid t (lit Null) (map (col 1) (layout_at t).keys) ++ others_given t)
 
 -- the text changes the row whose key is the first parameters: its other columns take the parameters that follow
-pub record IsUpdateText (t : Table) (sql : List ℕ) : Type 0 where
-  pub is : command_of (understood office_schema sql) ≡ Update (place_at t) (record { lets = []; body = picked_by (layout_at t) (renewed_at t) })
-  pub plain : IsWriting sql
+abbrev pub IsUpdateText : Table → List ℕ → Type 0
+IsUpdateText t sql = Means sql (Update (place_at t) (record { lets = []; body = picked_by (layout_at t) (renewed_at t) }))
 
 -- the text adds a row whose key and other columns are the parameters
-pub record IsInsertText (t : Table) (sql : List ℕ) : Type 0 where
-  pub is : command_of (understood office_schema sql) ≡ Insert (place_at t) (source_at t)
-  pub plain : IsWriting sql
+abbrev pub IsInsertText : Table → List ℕ → Type 0
+IsInsertText t sql = Means sql (Insert (place_at t) (source_at t))
 
 -- the text removes the row whose key is the parameters
-pub record IsRemoveText (t : Table) (sql : List ℕ) : Type 0 where
-  pub is : command_of (understood office_schema sql) ≡ Delete (place_at t) (record { lets = []; body = found_by (layout_at t) (0 ∷ []) })
-  pub plain : IsWriting sql
+abbrev pub IsRemoveText : Table → List ℕ → Type 0
+IsRemoveText t sql = Means sql (Delete (place_at t) (record { lets = []; body = found_by (layout_at t) (0 ∷ []) }))
 
 -- the text removes all rows of one intersection, which is its parameter
-pub record IsDropText (t : Table) (sql : List ℕ) : Type 0 where
-  pub is : command_of (understood office_schema sql)
-      ≡ Delete (place_at t) (record {
-        lets = [];
-        body = picked_where (layout_at t) (of_first t) (col 1 0 ∷ []);
-      })
-  pub plain : IsWriting sql
+abbrev pub IsDropText : Table → List ℕ → Type 0
+IsDropText t sql = Means sql (Delete (place_at t) (record { lets = []; body = picked_where (layout_at t) (of_first t) (col 1 0 ∷ []) }))
 
 -- a key of a timing or draft row, with its intersection, as the parameters of a statement
 abbrev pub key_values : ℕ → Key → Row
@@ -293,25 +276,15 @@ suit (c ∷ cs) (x ∷ xs) = suits_kind c.kind x && suit cs xs
 abbrev pub id_given : Table → List Cell → Cell
 id_given t key = cond (is_keyed t) null (unwrap_or (slice_get key 0) null)
 
--- the values that are stored beside the rowid of a row with these cells
-abbrev pub stored_beside : Table → List Cell → List Cell → Row
-stored_beside t key columns = values_of (beside_rowid t null key ++ columns)
+-- the lists are of one length
+abbrev pub are_as_many : {X Y : Type 0} → List X → List Y → Bool
+are_as_many [] [] = true
+are_as_many (x ∷ xs) (y ∷ ys) = are_as_many xs ys
+are_as_many _ _ = false
 
--- the values that an insertion gives for a row with these cells, its rowid first
-abbrev pub row_given : Table → List Cell → List Cell → Row
-row_given t key columns = value_of (id_given t key) ∷ stored_beside t key columns
-
--- the table takes a row with these key cells and other cells, as they are, and shows them again
-pub record Fits (t : Table) (key columns : List Cell) : Type 0 where
-  -- the cells are what the statements read of the parameters
-  pub whole : IsKeyOf t (values_of (key ++ columns))
-  pub named : key_given t (values_of (key ++ columns)) ≡ key
-  pub given : (limit : Option ℕ) (db : Database) (rows : List Row) → Sourced limit db (stamped (schema_at t) (values_of (key ++ columns))) (source_at t) (Ok rows) → rows ≡ row_given t key columns ∷ []
-  pub rest : (row : Row) → eval_all (others_given t) (values_of (key ++ columns) ∷ row ∷ []) ≡ values_of columns
-  -- the columns take the cells
-  pub numbered : suits_kind kind.Integer (id_given t key) ≡ true
-  pub suits : suit (schema_at t).columns (beside_rowid t null key ++ columns) ≡ true
-  -- a row of these cells shows them when it was added, and when it was changed to them
-  pub placed : (rows : List Row) → (cells_at (layout_at t).keys (with_rowid Chosen rows (row_given t key columns)) ≡ key) × (cells_at (layout_at t).columns (with_rowid Chosen rows (row_given t key columns)) ≡ columns)
-  pub kept : (n : ℤ) (row : Row) → cells_at (layout_at t).keys (Int n ∷ row) ≡ key → cells_at (layout_at t).keys (Int n ∷ stored_beside t key columns) ≡ key
-  pub shows : (n : ℤ) → cells_at (layout_at t).columns (Int n ∷ stored_beside t key columns) ≡ columns
+-- the table takes a row with these cells as they are: those of its key are numbers and texts, and all suit its columns
+abbrev pub takes : Table → List Cell → List Cell → Bool
+takes t key columns =
+    (are_as_many (layout_at t).keys key && are_as_many (layout_at t).columns columns)
+    && (list_all (λ cell. is_sound (value_of cell)) key
+    && (suits_kind kind.Integer (id_given t key) && suit (schema_at t).columns (beside_rowid t null key ++ columns)))

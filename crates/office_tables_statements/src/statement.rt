@@ -5,7 +5,7 @@ ghost use Rattle.std.specs.Option.{option_to_list};
 ghost use Rattle.sqlite.specs.Values.{bound};
 ghost use Rattle.sqlite.specs.State.{HasCleanDisk};
 ghost use Rattle.sqlite.specs.Held.{state};
-ghost use Rattle.office_tables_statements.specs.Calls.{IsHonest, IsOffice, Keeps, IsQuery, Reads, IsWriting, Ran, StandsOn, StaysOpen};
+ghost use Rattle.office_tables_statements.specs.Calls.{IsHonest, IsOffice, IsStatement, Keeps, Reads, Ran, StandsOn, StaysOpen};
 
 use office_tables_shelf::shelf::ShelfFault;
 use signal_records::NoMemory;
@@ -58,7 +58,7 @@ pub fn select<S: Alter>(
     params: &[ValueRef<'_>],
 ) -> Result<Vec<Row>, SqlFault>
     requires office { IsOffice (state S.Store conn.old) }
-    requires query { IsQuery sql.now }
+    requires query { IsStatement sql.now }
     ensures rows { IsHonest (state S.Store conn.new) → IfOk result (λ rows.
         Reads sql.now (bound params.now) (state S.Store conn.old).now rows.items) }
     ensures kept { Keeps (state S.Store conn.old) (state S.Store conn.new) }
@@ -76,7 +76,7 @@ pub fn select_one<S: Alter>(
     params: &[ValueRef<'_>],
 ) -> Result<Option<Row>, SqlFault>
     requires office { IsOffice (state S.Store conn.old) }
-    requires query { IsQuery sql.now }
+    requires query { IsStatement sql.now }
     ensures row { IsHonest (state S.Store conn.new) → IfOk result (λ row.
         Reads sql.now (bound params.now) (state S.Store conn.old).now (option_to_list row)) }
     ensures kept { Keeps (state S.Store conn.old) (state S.Store conn.new) }
@@ -96,7 +96,7 @@ pub fn write<S: Alter>(
     sql: &str,
     params: &[ValueRef<'_>],
 ) -> Result<usize, SqlFault>
-    requires { IsWriting sql.now }
+    requires { IsStatement sql.now }
     ensures same_reference { tx.new.conn.ghost_name ≡ tx.old.conn.ghost_name }
     ensures ran { HasCleanDisk (state S.Store tx.new.conn.now) → IfOk result
         (Ran sql.now (bound params.now) (state S.Store tx.old.conn.now)

@@ -8,10 +8,10 @@ use Rattle.office_tables.proofs.migrate.spell_anew.Goals.{After-write_anew}
 use Rattle.office_tables.proofs.migrate.spell_anew.Goals as goal
 
 pub former_rows-requires-clause-query : goal.former_rows-requires-clause-query
-former_rows-requires-clause-query g c = lists_timing.text.query
+former_rows-requires-clause-query g c = (_, lists_timing.text)
 
 pub former_rows-requires-2-clause-query : goal.former_rows-requires-2-clause-query
-former_rows-requires-2-clause-query g c = lists_draft.text.query
+former_rows-requires-2-clause-query g c = (_, lists_draft.text)
 
 pub returns-in_err-kept-clause-damaged : goal.returns-in_err-kept-clause-damaged
 returns-in_err-kept-clause-damaged g c is clean = inl (no_row _ (c.in_err-kept.ensures.damaged (search rules) (c.in_err-kept.ensures.open clean (search rules)) Timing lists_timing))

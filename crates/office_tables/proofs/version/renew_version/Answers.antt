@@ -4,10 +4,10 @@ use Rattle.office_tables.proofs.VersionLemmas.{drop_version_is, put_version_is, 
 use Rattle.office_tables.proofs.version.renew_version.Goals as goal
 
 pub write-requires : goal.write-requires
-write-requires g c = drop_version_is.plain
+write-requires g c = (_, drop_version_is)
 
 pub write-requires-2 : goal.write-requires-2
-write-requires-2 g c = put_version_is.plain
+write-requires-2 g c = (_, put_version_is)
 
 pub returns-clause-renewed : goal.returns-clause-renewed
 returns-clause-renewed g c clean ready =

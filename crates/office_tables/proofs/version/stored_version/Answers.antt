@@ -7,7 +7,7 @@ use Rattle.office_tables.proofs.VersionLemmas.{find_version_is, find_version, ve
 use Rattle.office_tables.proofs.version.stored_version.Goals as goal
 
 pub select_one-requires-clause-query : goal.select_one-requires-clause-query
-select_one-requires-clause-query g c = find_version_is.query
+select_one-requires-clause-query g c = (_, find_version_is)
 
 pub returns-clause-found : goal.returns-clause-found
 returns-clause-found g c honest =

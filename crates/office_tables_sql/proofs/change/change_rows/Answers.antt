@@ -20,7 +20,7 @@ loop-change-preserved g c =
           let before = was.3 (omega (arith, clean, it.stands.crash.clean)) ready in
           let rest = drop (c.loop-change.change-index + 1) c.args.changes.now in
           let tables = content_now mid in
-          let then = it.changed clean before.0.ready in (
+          let then = it.turned clean before.0.ready in (
             record { ready = then.ready; content = refl; version = then.version ∙ before.0.version },
             ap (λ t. changed_by t rest) then.content ∙ ap (λ x. changed_by (changed tables x) rest) c.change-item.is
                 ∙ sym (ap (changed_by tables) (drop_more c.args.changes.now c.loop-change.change-index c.change-item.result c.loop-change-test.true)) ∙ before.1,

@@ -1,13 +1,26 @@
+use Rattle.std.proofs.Common.{refl}
+use Rattle.sqlite_tied.specs.Compute.{everything}
 use Rattle.office_tables_shelf.specs.declared.rows.Table.TheVariants.{Draft}
 use Rattle.office_tables_sql.specs.declared.draft.TheConstants.{DROP}
-use Rattle.office_tables_sql.specs.DraftTexts as texts
+use Rattle.office_tables_statements.specs.Tables.{IsDropText}
 use Rattle.office_tables_statements.proofs.StoredPuts.{drops}
 use Rattle.office_tables_sql.proofs.draft.drop_all.Goals as goal
 
-pub write-requires : goal.write-requires
-write-requires g c = texts.drops.plain
+drop_is : IsDropText Draft DROP.now
+unfolding everything
+drop_is = refl
 
-pub returns-clause-dropped : goal.returns-clause-dropped
-returns-clause-dropped g c clean ready =
-    drops Draft DROP.now texts.drops c.args.id _ _ _ ready
-    (rw (c.params-to_sql.ensures, c.get.ensures.value) at (c.in_ok-write.ensures.ran clean))
+pub write-requires : goal.write-requires
+write-requires g c = (_, drop_is)
+
+pub returns : goal.returns
+returns g c =
+    let it = c.in_ok-write.ensures in
+    record {
+      same_reference = it.same_reference;
+      turned = λ clean ready.
+          drops Draft DROP.now drop_is c.args.id _ _ _ ready
+          (rw (c.params-to_sql.ensures, c.get.ensures.value) at (it.ran clean));
+      honest = it.honest;
+      stands = it.stands;
+    }

@@ -1,7 +1,17 @@
 use Rattle.office_tables_statements.proofs.StoredPuts.{inserts}
 use Rattle.office_tables_sql.proofs.stored_row.add.Goals as goal
 
-pub returns-clause-added : goal.returns-clause-added
-returns-clause-added g c clean ready =
-    inserts _ _ _ (g.met.T.StoredRow.fits c.args.of c.args.row.now) _ g.met.T.StoredRow.means.inserts _ _ _ ready
-    (rw (c.texts.ensures.insert, c.as_slice.ensures.value, c.in-Ok.ensures) at (c.in_ok-write.ensures.ran clean))
+pub write-requires : goal.write-requires
+write-requires g c = (_, c.texts.ensures.insert)
+
+pub returns : goal.returns
+returns g c =
+    let it = c.in_ok-write.ensures in
+    record {
+      same_reference = it.same_reference;
+      turned = λ clean ready.
+          inserts _ _ _ c.in-Ok.ensures.taken _ c.texts.ensures.insert _ _ _ ready
+          (rw (c.as_slice.ensures.value, c.in-Ok.ensures.bound) at (it.ran clean));
+      honest = it.honest;
+      stands = it.stands;
+    }

@@ -1,14 +1,19 @@
-use Rattle.std.proofs.Common.{◌<◌, ◌^◌, rules, pos, [], ◌∷◌}
+use Rattle.std.proofs.Common.{◌<◌, ◌^◌, rules, pos, [], ◌∷◌, refl}
+use Rattle.sqlite_tied.specs.Compute.{everything}
 use Rattle.sqlite.specs.{declared.types.Value.TheVariants.Int, Held.state}
 use Rattle.office_tables_shelf.specs.declared.rows.Table.TheVariants.{Timing}
 use Rattle.office_tables_sql.specs.declared.timing.TheConstants.{COUNT}
 use Rattle.office_tables_statements.specs.Calls.{Reads}
-use Rattle.office_tables_sql.specs.TimingTexts as texts
+use Rattle.office_tables_statements.specs.Tables.{IsCountText}
 use Rattle.office_tables_statements.proofs.StoredLists.{counts}
 use Rattle.office_tables_sql.proofs.timing.count.Goals as goal
 
+count_is : IsCountText Timing COUNT.now
+unfolding everything
+count_is = refl
+
 pub select_one-requires-clause-query : goal.select_one-requires-clause-query
-select_one-requires-clause-query g c = texts.counts.query
+select_one-requires-clause-query g c = (_, count_is)
 
 pub returns-in-Ok-clause-count : goal.returns-in-Ok-clause-count
 returns-in-Ok-clause-count g c honest =
@@ -17,4 +22,4 @@ returns-in-Ok-clause-count g c honest =
     let read : Reads COUNT.now (Int (pos c.args.id) ∷ []) db (c.in-Some.row ∷ []) =
     rw (c.in-Some.is, c.params-to_sql.ensures, c.get.ensures.value) at (c.in_ok-row.ensures.row honest) in
     let low : c.in-Ok.count < 2 ^ 32 = search rules in
-    counts Timing db (c.requires.schema before) (c.requires.sound before) (c.requires.ordered before) COUNT.now texts.counts c.args.id c.in-Some.row read c.in-Ok.count low c.in-Ok.ensures.ok
+    counts Timing db (c.requires.schema before) (c.requires.sound before) (c.requires.ordered before) COUNT.now count_is c.args.id c.in-Some.row read c.in-Ok.count low c.in-Ok.ensures.ok
