@@ -1,5 +1,5 @@
 -- Dropping the tables of the office's names, where a database has no other, leaves it without tables, whatever their order and their layout.
-use Rattle.std.proofs.Common.{◌≡◌, inl, inr, ℕ, suc, ◌+◌, ◌-◌, ◌==◌, Bool, true, false, true≢false, not, List, [], ◌∷◌, codes, map, Option, None, Some, slice_get, Ok, refl, sym, ap, subst, ◌∙◌, arith, eq-eqb}
+use Rattle.std.proofs.Common.{◌≡◌, inl, inr, ℕ, suc, ◌+◌, ◌==◌, Bool, true, false, true≢false, not, List, [], ◌∷◌, codes, map, Option, None, Some, slice_get, Ok, refl, sym, ap, subst, ◌∙◌, arith, eq-eqb}
 use Rattle.std.proofs.lemmas.Bool.{cases_Bool, false_from_ne_true}
 use Rattle.std.specs.{List.AllZip, List.position_from, List.list_any}
 use Rattle.sqlite.specs.Does.{AtPlace, Drops as DoesDrop, Empties, HoldWithout, Leaves, Tally, Tested, Uncounts, no_rows}

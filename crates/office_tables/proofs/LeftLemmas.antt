@@ -1,11 +1,11 @@
 -- What is left of a database whose tables were refused.
-use Rattle.std.proofs.Common.{◌≡◌, ◌≢◌, inl, inr, Result, Ok, IsTrue, refl, sym, ap, subst, ◌∙◌, arith}
+use Rattle.std.proofs.Common.{◌≡◌, ◌≢◌, inl, inr, Result, Ok, IsTrue, sym, ap, subst, ◌∙◌, arith}
 use Rattle.std.proofs.lemmas.Result.{IfOk-weaker}
 use Rattle.sqlite.specs.{Held.Held, Held.state, State.State, State.HasCleanDisk, State.Survives, Tree.Trees, View.IsClean}
-use Rattle.sqlite_trees.specs.{View.IsQuiet, View.IsRolledBack, declared.store.Store.Ghosts}
+use Rattle.sqlite_trees.specs.{View.IsQuiet, declared.store.Store.Ghosts}
 use Rattle.office_tables_shelf.specs.Content.{Content}
 use Rattle.office_tables_statements.specs.{Calls.IsHonest, Stored.content_now}
-use Rattle.office_tables.specs.Opening.{IsAsFound, IsIdleOrSame, IsLeft, IsOpened, IsPrepared, IsRefused, MayMake, TellsOfTables, store_left}
+use Rattle.office_tables.specs.Opening.{IsAsFound, IsIdleOrSame, IsLeft, IsOpened, IsRefused, MayMake, TellsOfTables, store_left}
 use Rattle.office_tables.specs.{Arranged.IsCheckedAgain, Found.HasOtherVersion, Found.HasRowsAlone, Found.Hold, Found.MayBeTaken, Found.TakesOver, SqlShelf.SqlView}
 use Rattle.office_tables_sql.specs.{Version.Completes}
 use Rattle.office_tables.specs.declared.open.OpenFault.{OpenFault}
@@ -18,15 +18,6 @@ made_over old new tables may it = record { taken = inr may.may; kept = subst (Ho
 module _ {S : Type 0} (g : Ghosts S) (conn : Held S) where
   abbrev old : State
   old = state g conn
-
-  -- a connection that was given up, and its store
-  pub given_up : (store : S) → IsRolledBack (g.view conn.store) (g.view store) → IsQuiet g.view g.faults g.recovers g.is_shielded conn.store store → IsAsFound g conn store
-  given_up store undone quiet = record {
-    clean = quiet.clean;
-    was_open = λ h. (undone.kept h.0).was_open h.1;
-    committed = λ h. (undone.kept h.0).committed h.1;
-    crash = λ h trees left. inl (quiet.outcomes trees left);
-  }
 
   -- the store was read since
   pub still_found : (store left : S) → IsAsFound g conn store → (IsClean (g.view store) → IsTrue old.is_open) → IsQuiet g.view g.faults g.recovers g.is_shielded store left
@@ -78,14 +69,6 @@ module _ {S : Type 0} (g : Ghosts S) (conn : Held S) where
       neither : {A : Type 0} → TellsOfTables why → A
       neither told = elim told [ inl is ↦ absurd (no_version is) | inr is ↦ absurd (no_damage is) ]
 
-  pub refused_found : (why : OpenFault) (back : Result (Held S) S) → why ≢ fault.Version → why ≢ fault.Damaged → IsAsFound g conn (store_left g back) → IsIdleOrSame g conn back → IsRefused g conn why back
-  refused_found why back no_version no_damage it = refused_left why back no_version no_damage (as_left _ (store_left g back) it)
-
-  -- before it was looked at
-  pub refused_given : IsRefused g conn fault.Store (Ok conn)
-  refused_given = refused_found fault.Store (Ok conn) (λ is. absurd (let e : fault.Store ≡ fault.Version = is in cc)) (λ is. absurd (let e : fault.Store ≡ fault.Damaged = is in cc))
-      (record { clean = omega arith; was_open = λ h. h.1; committed = λ h. refl; crash = λ h trees may. inl may }) (inr refl)
-
   module _ (c : Held S) (it : IsCheckedAgain old (state g c)) where
     -- its database was checked again
     again_found : IsAsFound g conn c.store
@@ -133,14 +116,6 @@ module _ {S : Type 0} (g : Ghosts S) (conn : Held S) where
         | inl none ↦ inl none
         | inr same ↦ inl (ap (λ (x : Held S). x.in_transaction) same ∙ it.autocommit)
       ]) is.idle;
-    }
-
-    pub prepared_before : (new : State) → IsPrepared (state g c) new → IsPrepared old new
-    prepared_before new is = record {
-      office = is.office;
-      opened = is.opened;
-      was_clean = λ h. omega (arith, is.was_clean h, it.clean);
-      taken = λ h. subst (λ (t : Trees). TakesOver t new.now.trees) (it.kept (is.was_clean h)) (is.taken h);
     }
 
     pub opened_before : (shelf : SqlView S) → IsOpened g c shelf → IsOpened g conn shelf

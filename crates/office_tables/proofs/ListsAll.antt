@@ -32,11 +32,6 @@ pub both : {X E : Type 0} (r : Result X E) (P Q R : X → Type 0) → ((x : X) �
 both (Ok x) P Q R f p q = f x p q
 both (Err e) P Q R f p q = tt
 
--- one more row that was read
-pub one_more : {X Y Z : Type 0} (f : X → Z) (g : Y → Z) (xs : List X) (x : X) (y : Y) (ys : List Y) → f x ≡ g y → map f (xs ++ x ∷ []) ++ map g ys ≡ map f xs ++ map g (y ∷ ys)
-one_more f g [] x y ys e = ap (λ z. z ∷ map g ys) e
-one_more f g (w ∷ xs) x y ys e = ap (λ zs. f w ∷ zs) (one_more f g xs x y ys e)
-
 module _ (t : Table) (db : Database) (is : db.schema ≡ office_schema) (sound : IsDatabase db) (ordered : AreOrdered db.trees) (sql : List ℕ) (means : ListsAll t sql) (shown : List SqlRow) (reads : Reads sql [] db shown) where
   same_cells : (row : SqlRow) → row_shown t row ≡ shown_cells row
   same_cells row = λ i. (cells_at (places_from 0 (means.keys i)) row, cells_at (places_from (length (means.keys i)) (means.columns i)) row)

@@ -1,24 +1,23 @@
 -- What the texts that make the tables make of a database that has none.
-use Rattle.std.proofs.Common.{◌≡◌, ◌≤◌, ℕ, true, false, List, [], ◌∷◌, map, Some, Result, Ok, Err, refl, sym, ap, subst, ◌∙◌, arith}
-use Rattle.std.specs.{List.AllByRecursion, Prelude.OnOk, Prelude.⊤}
-use Rattle.sqlite.specs.{Does.MakesTable, Does.MakesSequence, Does.lacks_sequence, Does.no_rows, State.State, State.ExecutesInside, State.HasCleanDisk, State.Shows, Command.TheVariants.CreateTable, Effect.Database, Effect.IsDatabase, Given.IsPlain, Held.Held, Held.state, Listing.understood, Rows.Then, Rows.Gives, Tree.Trees, View.IsShaped}
+use Rattle.std.proofs.Common.{◌≡◌, ℕ, true, false, List, [], ◌∷◌, map, Result, Ok, Err, refl, sym, ap, subst, ◌∙◌}
+use Rattle.std.specs.{List.AllByRecursion}
+use Rattle.sqlite.specs.{Does.MakesTable, Does.MakesSequence, Does.lacks_sequence, Does.no_rows, State.State, State.ExecutesInside, Command.TheVariants.CreateTable, Effect.Database, Effect.IsDatabase, Given.IsPlain, Held.Held, Held.state, Listing.understood, Rows.Then, Rows.Gives, View.IsShaped}
 use Rattle.sqlite.proofs.Callers.{runs_as, through}
 use Rattle.sqlite_catalog.specs.Change.{created, next_tree, KeepsRows}
 use Rattle.sqlite_resolve.specs.Compile.{table_defined_by}
 use Rattle.sqlite_schema.specs.declared.schema.{Schema.Schema, Table.Table}
 use Rattle.sqlite_tied.specs.Compute.{everything}
 use Rattle.sqlite_trees.specs.declared.store.Shape.TheVariants as shape
-use Rattle.sqlite_trees.specs.{declared.store.Store.Ghosts, View.doubt}
+use Rattle.sqlite_trees.specs.{declared.store.Store.Ghosts}
 use Rattle.sqlite_trees.proofs.ListLemmas.{all_both, all_weaker}
 use Rattle.office_tables_shelf.proofs.ListLemmas.{all_more}
-use Rattle.office_tables_shelf.specs.Content.{Content, no_content}
-use Rattle.office_tables_statements.specs.Calls.{AreOrdered, IsOffice, IsReady, command_of, statement_of}
+use Rattle.office_tables_shelf.specs.Content.{no_content}
+use Rattle.office_tables_statements.specs.Calls.{IsReady, command_of, statement_of}
 use Rattle.office_tables_shelf.specs.declared.rows.Table.TheVariants as table
 use Rattle.office_tables_statements.specs.Tables.{layout_at}
 use Rattle.office_tables_statements.specs.Stored.{content_now, rows_in}
 use Rattle.office_tables_statements.specs.{Schema.no_schema, Schema.office_schema, declared.schema.TheConstants.CREATES}
-use Rattle.office_tables.specs.{Opening.AreRun, Opening.IsMade}
-use Rattle.office_tables_sql.specs.{Version.version_in, Version.current_version}
+use Rattle.office_tables.specs.{Opening.AreRun}
 
 -- in a transaction over tables without a row
 pub record IsOver (s : State) (schema : Schema) : Type 0 where
@@ -123,32 +122,3 @@ module _ {S : Type 0} (g : Ghosts S) (old new : Held S) (run : AreRun g office_t
     delivery = rows_in (layout_at table.Delivery) (e.1.1.1.1.1.1.0 i);
     used_part = rows_in (layout_at table.UsedPart) (e.1.1.1.1.1.1.1.0 i);
   }
-
--- the transaction was committed
-module _ (mid new : State) (clean : doubt mid.is_clean ≤ doubt new.is_clean) (shows : HasCleanDisk new → Shows mid new mid.now mid.now false) where
-  pub committed_office : (HasCleanDisk mid → IsReady mid) → new.in_transaction ≡ false → IsOffice new
-  committed_office ready mode = record {
-    autocommit = mode;
-    schema = λ h. ap (λ (d : Database). d.schema) (shows h.0).now_is ∙ (before h.0).schema;
-    settled = λ h. (shows h.0).now_is ∙ sym (shows h.0).committed_is;
-    ordered = λ h. subst (λ (d : Database). AreOrdered d.trees) (sym (shows h.0).now_is) (before h.0).ordered;
-    sound = λ h. subst IsDatabase (sym (shows h.0).now_is) (before h.0).sound;
-  }
-    where
-      before : HasCleanDisk new → IsReady mid
-      before h = ready (omega (arith, h, clean))
-
-  pub committed_rows : (P : Trees → Type 0) → (HasCleanDisk mid → P mid.now.trees) → HasCleanDisk new → P new.now.trees
-  committed_rows P holds h = subst (λ (d : Database). P d.trees) (sym (shows h).now_is) (holds (omega (arith, h, clean)))
-
--- the office's tables, in which today's version is stored
-pub made_ready : (s : State) (tables : Content) → IsReady s → content_now s ≡ tables → version_in s.now.trees ≡ Some current_version → IsMade tables s
-made_ready s tables ready content stored = record {
-  ready = ready;
-  completes = record { content = content; today = record { sound = subst (λ schema. IsDatabase (record s.now { schema = schema })) ready.schema ready.sound; stored = stored } };
-}
-
-pub made_if : {E : Type 0} (r : Result ⊤ E) (old new : State) → IsReady old → content_now old ≡ no_content → OnOk r (IsReady old → IsReady new) → OnOk r (IsReady old → content_now new ≡ content_now old)
-    → OnOk r (IsReady old → version_in new.now.trees ≡ Some current_version) → OnOk r (IsMade no_content new)
-made_if (Ok x) old new ready none goes same stored = made_ready new no_content (goes ready) (same ready ∙ none) (stored ready)
-made_if (Err e) old new ready none goes same stored = tt

@@ -1,5 +1,5 @@
 -- What the steps of an opening come to.
-use Rattle.std.proofs.Common.{◌≡◌, ◌≤◌, inl, inr, List, map, Some, IsTrue, false, refl, sym, ap, subst, subst₂, ◌∙◌, arith}
+use Rattle.std.proofs.Common.{◌≡◌, ◌≤◌, inl, inr, List, map, Some, IsTrue, false, refl, sym, ap, subst, ◌∙◌, arith}
 use Rattle.sqlite.specs.State.{State, HasCleanDisk, Opens, IsLive}
 use Rattle.sqlite.specs.{Effect.Database, Effect.IsDatabase, Held.Held, Held.state, Steps.IsFresh, Tree.Trees, View.View, View.IsClean}
 use Rattle.sqlite_trees.specs.{View.doubt, Objects.catalog_tree, declared.store.Store.Ghosts}
@@ -10,10 +10,10 @@ use Rattle.office_tables_statements.specs.{Calls.IsHonest, Calls.IsOffice, Calls
 use Rattle.office_tables.specs.Arranged.{IsArranged, IsUnchanged, IsTaken, IsCheckedAgain}
 use Rattle.office_tables.specs.Found.{MayBeMade, TakesOver, eight_rows, keeper_rows}
 use Rattle.office_tables.specs.Moved.{all_put, part_moved, rows_named}
-use Rattle.office_tables.specs.Opening.{IsOpened, IsOpenIfClean, IsPrepared, MayMake}
+use Rattle.office_tables.specs.Opening.{IsOpened, IsOpenIfClean, MayMake}
 use Rattle.office_tables.proofs.{ArrangedLemmas.tables_rise, MovedLemmas.moved_whole, MovedLemmas.office_hold}
-use Rattle.office_tables.specs.{SqlShelf.SqlView}
-use Rattle.office_tables_sql.specs.{Version.version_in, Version.current_version}
+use Rattle.office_tables.specs.{SqlShelf.IsCurrent, SqlShelf.SqlView}
+use Rattle.office_tables_sql.specs.{Version.AreToday, Version.version_in, Version.current_version}
 use Rattle.office_tables.specs.declared.gather.Moved.{Moved}
 
 -- the tables of the office in a database that holds what it lists
@@ -28,27 +28,48 @@ arranged_office s autocommit schema settled sound arranged = record {
   sound = sound;
 }
 
--- a shelf over tables that were prepared
-pub opened_over : {S : Type 0} (g : Ghosts S) (conn : Held S) (shelf : SqlView S) → shelf.counts ≡ no_writes → IsPrepared (state g conn) (state g shelf.conn)
-    → ((trees : Trees) → IsTrue (state g shelf.conn).is_open → (state g shelf.conn).may_leave trees → trees ≡ (state g shelf.conn).committed.trees) → IsOpened g conn shelf
-opened_over g conn shelf none it settled = record {
+-- the database has the office's tables and, if it is open, they took over what its last commit held
+pub record IsPrepared (old new : State) : Type 0 where
+  pub office : IsOffice new
+  pub opened : IsOpenIfClean new
+  pub was_clean : IsHonest new → HasCleanDisk old
+  pub taken : IsHonest new → TakesOver old.committed.trees new.now.trees
+
+-- tables that were prepared, of which a crash leaves what is committed
+module _ (old new : State) (it : IsPrepared old new) (settled : (trees : Trees) → IsTrue new.is_open → new.may_leave trees → trees ≡ new.committed.trees) where
+  left_now : (trees : Trees) → IsHonest new → new.may_leave trees → trees ≡ new.now.trees
+  left_now trees h may = settled trees h.1 may ∙ sym (ap (λ (d : Database). d.trees) (it.office.settled h))
+
+  -- store today's version
+  pub current : IsCurrent new
+  current = record {
+    office = it.office;
+    stored = λ h. (it.taken h).today.stored;
+    left = λ clean trees may. let h = it.opened clean in subst AreToday (sym (left_now trees h may)) (it.taken h).today;
+  }
+
+-- and are opened by a shelf over them
+pub opened_over : {S : Type 0} (g : Ghosts S) (conn c : Held S) → IsPrepared (state g conn) (state g c)
+    → ((trees : Trees) → IsTrue (state g c).is_open → (state g c).may_leave trees → trees ≡ (state g c).committed.trees)
+    → (shelf : SqlView S) → shelf.conn ≡ c → shelf.counts ≡ no_writes → IsOpened g conn shelf
+opened_over g conn c it settled shelf same none = subst (λ (it : SqlView _). IsOpened g conn it) (λ i. record { conn = sym same i; counts = sym none i }) (record {
   opened = it.opened;
   honest = it.was_clean;
   taken = λ h. (it.taken h).taken;
   kept = λ h. (it.taken h).kept;
   stored = λ h. (it.taken h).today.stored;
   schema = it.office.schema;
-  crash = λ h trees may. ap content_of (settled trees h.1 may ∙ sym (ap (λ (d : Database). d.trees) (it.office.settled h)));
-  unwritten = none;
-}
+  crash = λ h trees may. ap content_of (left_now (state g conn) (state g c) it settled trees h may);
+  unwritten = refl;
+})
 
 -- ---- the office's tables, which were asked for their version
 
-module _ (old new : State) (office : IsOffice old) (it : Keeps old new) (opened : IsOpenIfClean new) where
+module _ (old new : State) (settled : IsHonest old → old.now ≡ old.committed) (it : Keeps old new) (opened : IsOpenIfClean new) where
   same : IsHonest new → new.now.trees ≡ old.committed.trees
-  same h = ap (λ (d : Database). d.trees) (it.same h ∙ office.settled (it.honest h))
+  same h = ap (λ (d : Database). d.trees) (it.same h ∙ settled (it.honest h))
 
-  pub still_committed : IsHonest new → new.committed.trees ≡ old.committed.trees
+  still_committed : IsHonest new → new.committed.trees ≡ old.committed.trees
   still_committed h = ap (λ (d : Database). d.trees) (sym (it.office.settled h)) ∙ same h
 
   pub asked_again : (HasCleanDisk old → IsArranged old.committed.trees) → IsCheckedAgain old new
@@ -65,17 +86,17 @@ module _ (old new : State) (office : IsOffice old) (it : Keeps old new) (opened 
 
   -- today's version is stored in them
   pub today_prepared : (IsHonest new → version_in old.now.trees ≡ Some current_version) → IsPrepared old new
-  today_prepared stored = record {
+  today_prepared is = record {
     office = it.office;
     opened = opened;
     was_clean = λ h. (it.honest h).0;
     taken = λ h.
-        let was = it.honest h in
-        let sound = subst (λ schema. IsDatabase (record old.now { schema = schema })) (office.schema was) (office.sound was) in
-        subst₂ TakesOver (ap (λ (d : Database). d.trees) (office.settled was)) (ap (λ (d : Database). d.trees) (sym (it.same h))) (record {
-          taken = inl (stored h);
-          kept = office_hold old.now.trees (content_now old) sound.lists.listed refl;
-          today = record { sound = sound; stored = stored h };
+        let sound = subst (λ schema. IsDatabase (record new.now { schema = schema })) (it.office.schema h) (it.office.sound h) in
+        let stored = ap (λ (d : Database). version_in d.trees) (it.same h) ∙ is h in
+        subst (λ (was : Trees). TakesOver was new.now.trees) (same h) (record {
+          taken = inl stored;
+          kept = office_hold new.now.trees (content_now new) sound.lists.listed refl;
+          today = record { sound = sound; stored = stored };
         });
   }
 

@@ -1,5 +1,5 @@
 -- Rows that are put into the tables of the office as they were stored.
-use Rattle.std.proofs.Common.{◌≡◌, ℕ, true, true≢false, ◌&&◌, List, [], ◌∷◌, ◌++◌, map, length, drop, Result, Ok, Err, refl, sym, ap, subst, ◌∙◌}
+use Rattle.std.proofs.Common.{◌≡◌, ℕ, true, true≢false, ◌&&◌, List, [], ◌∷◌, ◌++◌, map, length, Result, Ok, Err, refl, sym, ap, subst, ◌∙◌}
 use Rattle.std.proofs.lemmas.Bool.{and_parts, and_from}
 use Rattle.std.specs.Prelude.{OnOk, ⊤}
 use Rattle.sqlite.specs.{Order.Row, Order.column, State.State}
@@ -8,18 +8,15 @@ use Rattle.sqlite.specs.Values.{bound_value}
 use Rattle.sqlite_schema.specs.declared.{schema.Column.Column, schema.Kind.Kind}
 use Rattle.sqlite_schema.specs.declared.schema.Kind.TheVariants as kind
 use Rattle.office_tables_shelf.specs.Cells.{Cell, null, number, text, odd}
-use Rattle.office_tables_shelf.specs.Content.{Content, no_content}
+use Rattle.office_tables_shelf.specs.Content.{Content}
 use Rattle.office_tables_shelf.specs.declared.rows.Table.{Table}
 use Rattle.office_tables_shelf.specs.declared.rows.Table.TheVariants as table
 use Rattle.office_tables_statements.specs.{Layout.values_at, Calls.IsReady, Calls.IsTurned, Calls.Ran}
 use Rattle.office_tables_statements.specs.Stored.{are_sound, cell_of, cells, cells_at, content_now, is_sound}
 use Rattle.office_tables_statements.specs.Tables.{IsInsertText, layout_at, places_of, schema_at, suit, suits_kind, takes, value_of, values_of}
 use Rattle.office_tables_statements.proofs.{StoredPuts.inserts, TableLemmas.each}
-use Rattle.office_tables.specs.Moved.{Part, all_put, part_moved, row_put, rows_put}
+use Rattle.office_tables.specs.Moved.{all_put, part_moved, row_put, rows_put}
 use Rattle.office_tables.specs.declared.gather.Moved.{Moved}
-use Rattle.office_tables.specs.{Opening.IsMade}
-use Rattle.office_tables_sql.specs.{Version.version_of}
-use Rattle.office_tables.proofs.MadeLemmas.{made_ready}
 
 -- ---- values and their cells
 
@@ -93,11 +90,6 @@ pub put_stored : (t : Table) (row : Row) → IsTold t row → IsSuited t row →
 put_stored t row told suited sql means params is old new count ready ran =
     inserts t _ _ (taken t row told suited) sql means old new count ready (subst (λ ps. Ran sql ps old new count) (is ∙ bound_row t row suited) ran)
 
--- one more value that was bound
-pub one_bound : {X Y Z : Type 0} (f : X → Z) (g : Y → Z) (xs : List X) (x : X) (y : Y) (ys : List Y) → f x ≡ g y → map f (xs ++ x ∷ []) ++ map g ys ≡ map f xs ++ map g (y ∷ ys)
-one_bound f g [] x y ys e = ap (λ z. z ∷ map g ys) e
-one_bound f g (w ∷ xs) x y ys e = ap (λ zs. f w ∷ zs) (one_bound f g xs x y ys e)
-
 -- ---- one row after another, from the last one
 
 pub last_row : (t : Table) (base : Content) (rows : List Row) (row : Row) → rows_put t base (rows ++ row ∷ []) ≡ rows_put t (row_put t base row) rows
@@ -116,10 +108,3 @@ turned_then (Ok x) old mid new first last one two same = λ ready.
     let then = two was.ready in
     record { ready = then.ready; content = then.content ∙ same was; version = then.version ∙ was.version }
 turned_then (Err e) old mid new first last one two same = tt
-
--- the rows were put into new tables, in which the version stays
-pub refilled_if : {E : Type 0} (r : Result ⊤ E) (all : List Part) (mid new : State) → OnOk r (IsReady mid → IsTurned (all_put (content_now mid) all) mid new) → IsMade no_content mid → OnOk r (IsMade (all_put no_content all) new)
-refilled_if (Ok x) all mid new put is =
-    let turned = put is.ready in
-    made_ready new _ turned.ready (turned.content ∙ ap (λ c. all_put c all) is.completes.content) (ap version_of turned.version ∙ is.completes.today.stored)
-refilled_if (Err e) all mid new put is = tt

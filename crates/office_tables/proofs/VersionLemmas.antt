@@ -1,14 +1,15 @@
 -- The stored version and its statements.
 use Rattle.std.proofs.Common.{◌≡◌, ℕ, [], ◌∷◌, length, codes, refl, sym, ap, subst, ◌∙◌, cond, Option, Some, IfSome, option_map, pos}
 use Rattle.std.specs.{Option.option_to_list, FinMap.get, FinMap.insert, FinMap.get-insert}
-use Rattle.sqlite.specs.{Command.TheVariants.Select, Command.TheVariants.Insert, Command.TheVariants.Delete, Effect.Database, Order.Row, Tree.Trees, Cast.cast_row, Source.Source, State.State, Source.TheVariants.Values, Term.lit, Term.col, View.IsShaped}
+use Rattle.sqlite.specs.{Command.TheVariants.Select, Command.TheVariants.Insert, Command.TheVariants.Delete, Effect.Database, Effect.IsDatabase, Order.Row, Cast.cast_row, Source.Source, State.State, Source.TheVariants.Values, Term.lit, Term.col, View.IsShaped}
 use Rattle.sqlite.specs.declared.types.Value.TheVariants.{Null, Int}
 use Rattle.sqlite_tied.specs.Compute.{everything}
 use Rattle.office_tables_statements.specs.Layout as layout
-use Rattle.office_tables_shelf.specs.{Cells.number, declared.rows.Table.Table}
+use Rattle.office_tables_shelf.specs.{Cells.number}
 use Rattle.office_tables_statements.specs.{Stored.rows_in, Stored.cells, Stored.rows_stored, Stored.content_now, Calls.Means, Calls.Reads, Calls.IsReady, Calls.Ran, Tables.found_by, Layout.office_version}
 use Rattle.office_tables_statements.specs.Schema.{office_schema, version_table}
-use Rattle.office_tables_sql.specs.Version.{version_in, version_of, current_version}
+use Rattle.office_tables_sql.specs.Version.{version_in, current_version}
+use Rattle.office_tables.specs.Opening.{IsMade}
 use Rattle.office_tables_statements.proofs.QueryLemmas.{AreShaped, found_by_key, has_width}
 use Rattle.office_tables_statements.proofs.WriteLemmas.{Added, adds, IsIdle, wrote}
 use Rattle.office_tables_statements.proofs.{StoredLemmas.get_columns, StoredLemmas.sound_rowids, Casts.cast_int, Casts.cast_null, RemoveLemmas.remove_keyed, ContentLemmas.tie_self, ContentLemmas.put_at, ContentLemmas.free_rowid, TableLemmas.apart, TableLemmas.none_in}
@@ -54,7 +55,7 @@ version_source = Values (col 0 0 ∷ lit Null ∷ col 0 1 ∷ []) 3
 cast_version : cast_row version_table stored_version ≡ stored_version
 cast_version = λ i. cast_int (pos 1) i ∷ cast_null i ∷ cast_int (pos 2) i ∷ []
 
-pub put_version : (old new : State) (count : ℕ) → IsReady old → Ran PUT_VERSION.now (Int (pos 1) ∷ Int (pos 2) ∷ []) old new count
+put_version : (old new : State) (count : ℕ) → IsReady old → Ran PUT_VERSION.now (Int (pos 1) ∷ Int (pos 2) ∷ []) old new count
     → IsReady new × ((content_now new ≡ content_now old) × (version_in new.now.trees ≡ Some current_version))
 put_version old new count ready did =
     let params = Int (pos 1) ∷ Int (pos 2) ∷ [] in
@@ -73,7 +74,7 @@ put_version old new count ready did =
       ),
     )
 
-pub drop_version : (old new : State) (count : ℕ) → IsReady old → Ran DROP_VERSION.now (Int (pos 1) ∷ []) old new count → IsReady new × (content_now new ≡ content_now old)
+drop_version : (old new : State) (count : ℕ) → IsReady old → Ran DROP_VERSION.now (Int (pos 1) ∷ []) old new count → IsReady new × (content_now new ≡ content_now old)
 drop_version old new count ready did =
     let was : IsShaped shape.Table (old.now.trees 15) = ready.ordered.1.1.1.1.1.1.1.1.0 in
     let it = remove_keyed office_version tt version_table 8 refl (λ trees. refl) version_idle DROP_VERSION.now drop_version_is (Int (pos 1) ∷ []) refl
@@ -81,3 +82,17 @@ drop_version old new count ready did =
       it.0,
       none_in old.now.trees new.now.trees 15 it.1.others apart,
     )
+
+-- today's version in the place of the one that was stored
+pub renewed : (old mid new : State) (dropped put : ℕ) → IsReady old → Ran DROP_VERSION.now (Int (pos 1) ∷ []) old mid dropped
+    → Ran PUT_VERSION.now (Int (pos 1) ∷ Int (pos 2) ∷ []) mid new put → IsMade (content_now old) new
+renewed old mid new dropped put ready first last =
+    let without = drop_version old mid dropped ready first in
+    let it = put_version mid new put without.0 last in
+    record {
+      ready = it.0;
+      completes = record {
+        content = it.1.0 ∙ without.1;
+        today = record { sound = subst (λ schema. IsDatabase (record new.now { schema = schema })) it.0.schema it.0.sound; stored = it.1.1 };
+      };
+    }

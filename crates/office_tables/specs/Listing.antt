@@ -20,21 +20,13 @@ pub record ListsAll (t : Table) (sql : List ℕ) : Type 0 where
   pub keys : (layout_at t).keys ≡ 1 ∷ 2 ∷ 3 ∷ 4 ∷ []
   pub columns : (layout_at t).columns ≡ 5 ∷ []
 
--- the rows and removals that a call gives are all that the table kept, if the database is open after it
-abbrev pub ListsKept : Result (Vec (ℕ × Change) Global) ShelfFault → State → TableRows → Type 0
-ListsKept result new rows = IfOk result (λ kept. IsHonest new → AreKept rows kept.items)
-
--- where a list reports damage, the table has cells that no row of version 1 has, if the database is open after it
-abbrev pub TellsNoFormer : Result (Vec (ℕ × Change) Global) ShelfFault → State → TableRows → Type 0
-TellsNoFormer result new rows = result ≡ Err fault.Damaged → IsHonest new → HasNoFormer rows
-
 -- where a list gives rows, they are all of those of each table that the text lists, if the database is open after it
-abbrev pub ListsEach : Result (Vec (ℕ × Change) Global) ShelfFault → State → List ℕ → (Table → TableRows) → Type 0
-ListsEach result new sql rows = IfOk result (λ kept. IsHonest new → (t : Table) → ListsAll t sql → AreKept (rows t) kept.items)
+abbrev pub ListsKept : Result (Vec (ℕ × Change) Global) ShelfFault → State → List ℕ → (Table → TableRows) → Type 0
+ListsKept result new sql rows = IfOk result (λ kept. IsHonest new → (t : Table) → ListsAll t sql → AreKept (rows t) kept.items)
 
 -- where a list reports damage, each table that the text lists has cells that no row of version 1 has, if the database is open after it
-abbrev pub TellsNoFormerOfEach : Result (Vec (ℕ × Change) Global) ShelfFault → State → List ℕ → (Table → TableRows) → Type 0
-TellsNoFormerOfEach result new sql rows = result ≡ Err fault.Damaged → IsHonest new → (t : Table) → ListsAll t sql → HasNoFormer (rows t)
+abbrev pub TellsNoFormer : Result (Vec (ℕ × Change) Global) ShelfFault → State → List ℕ → (Table → TableRows) → Type 0
+TellsNoFormer result new sql rows = result ≡ Err fault.Damaged → IsHonest new → (t : Table) → ListsAll t sql → HasNoFormer (rows t)
 
 -- the query of all committed rows shows the whole table, in the order of its keys
 pub lists_timing : ListsAll Timing TIMING.now

@@ -15,7 +15,7 @@ use Rattle.office_tables_shelf.specs.Content.{Content}
 use Rattle.office_machine.specs.Office.{Office, version_1}
 use Rattle.office_tables_decisions.specs.StandFor.{StandForSoundIn}
 use Rattle.office_tables_shelf.specs.declared.rows.RowChange.{RowChange}
-use Rattle.office_tables_statements.specs.Calls.{IsHonest, IsReady}
+use Rattle.office_tables_statements.specs.Calls.{IsHonest}
 use Rattle.office_tables_statements.specs.Stored.{content_now, content_of}
 use Rattle.office_tables.specs.Rewritten.{HasNoFormer, HasNoFormerRow}
 use Rattle.office_tables.specs.Migration.{IsMigrated, StandAnew}
@@ -103,24 +103,6 @@ pub record HasDamagedFormer (trees : Trees) : Type 0 where
 abbrev pub IsChangedToday : State → List RowChange → Trees → Type 0
 IsChangedToday old changes trees = Completes (changed_by (content_now old) changes) trees
 
--- a step inside a transaction over the office's tables that succeeds on a clean disk leaves the
--- changed tables with today's version
-abbrev pub WritesToday : {A E : Type 0} → Result A E → List RowChange → State → State → Type 0
-WritesToday result changes old new =
-    HasCleanDisk new → OnOk result (IsReady old → IsChangedToday old changes new.now.trees)
-
--- a call that succeeds leaves the changed tables with today's version, if the database is open
--- after it
-abbrev pub WritesAllToday : {A E : Type 0} → Result A E → List RowChange → State → State → Type 0
-WritesAllToday result changes old new =
-    IsHonest new → OnOk result (IsChangedToday old changes new.now.trees)
-
--- a call that succeeds spells each row of version 1 as today, and gives how many it wrote anew, if
--- the database is open after it
-abbrev pub Migrates : {E : Type 0} → Result Migrated E → State → State → Type 0
-Migrates result old new =
-    IsHonest new → IfOk result (IsMigrated (content_now old) (content_now new))
-
 -- a call that succeeds leaves tables of today's version as they were, or brings those of version 1
 -- to it, if the database is open after it
 abbrev pub Brings : {E : Type 0} → Result Migrated E → State → State → Type 0
@@ -149,12 +131,6 @@ StandsAnew result old new =
 abbrev pub TellsVersion : {A S : Type 0} → Ghosts S → Result A OpenFault → Held S → Held S → Type 0
 TellsVersion g result old new =
     result ≡ Err fault.Version → HasCleanDisk (state g new) → HasUnknownVersion g old
-
--- on a clean disk, Damaged is reported only where cells stand in the tables in which version 1 kept
--- nothing
-abbrev pub TellsFormerDamage : {A : Type 0} → Result A OpenFault → State → State → Type 0
-TellsFormerDamage result old new =
-    result ≡ Err fault.Damaged → HasCleanDisk new → HasFormerDamage (content_now old)
 
 -- on a clean disk, Damaged is reported only where version 1 is committed with cells in which it
 -- kept nothing

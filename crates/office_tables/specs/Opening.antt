@@ -1,5 +1,5 @@
 -- What an opening of the tables makes of a database, and what it leaves where it refuses.
-use Rattle.std.specs.Prelude.{◌≡◌, ◌⊎◌, ◌≤◌, ℕ, false, List, [], ◌∷◌, Some, Result, Ok, Err, IfOk, IsTrue}
+use Rattle.std.specs.Prelude.{◌≡◌, ◌⊎◌, ◌≤◌, ℕ, false, List, [], ◌∷◌, Some, Result, Ok, Err, IfOk, IsTrue, OnOk}
 use Rattle.std.specs.List.{AllByRecursion}
 use Rattle.sqlite.specs.Effect.{Database, IsDatabase}
 use Rattle.sqlite.specs.Held.{Held, state}
@@ -7,9 +7,9 @@ use Rattle.sqlite.specs.State.{State, HasCleanDisk, ExecutesInside}
 use Rattle.sqlite.specs.Tree.{Trees}
 use Rattle.sqlite_trees.specs.View.{doubt, IsClean}
 use Rattle.sqlite_trees.specs.declared.store.Store.{Ghosts}
-use Rattle.office_tables_shelf.specs.Content.{Content, no_content}
+use Rattle.office_tables_shelf.specs.Content.{Content}
 use Rattle.office_tables_shelf.specs.Counts.{no_writes}
-use Rattle.office_tables_statements.specs.Calls.{IsHonest, IsOffice, IsReady}
+use Rattle.office_tables_statements.specs.Calls.{IsHonest, IsReady}
 use Rattle.office_tables_statements.specs.Schema.{office_schema}
 use Rattle.office_tables_statements.specs.Stored.{content_now, content_of}
 use Rattle.office_tables.specs.SqlShelf.{SqlView}
@@ -23,13 +23,6 @@ use Rattle.office_tables.specs.declared.open.OpenFault.TheVariants as fault
 abbrev pub IsOpenIfClean : State → Type 0
 IsOpenIfClean s = HasCleanDisk s → IsHonest s
 
--- the database has the office's tables and, if it is open, they took over what its last commit held
-pub record IsPrepared (old new : State) : Type 0 where
-  pub office : IsOffice new
-  pub opened : IsOpenIfClean new
-  pub was_clean : IsHonest new → HasCleanDisk old
-  pub taken : IsHonest new → TakesOver old.committed.trees new.now.trees
-
 -- the tables of a file may be made anew, and hold this content
 pub record MayMake (tables : Content) (old : Trees) : Type 0 where
   pub may : IsUnclaimed old ⊎ IsLacking old
@@ -41,11 +34,15 @@ pub record AreOurs (db : Database) : Type 0 where
   pub no_views : db.schema.views ≡ []
   pub named : AllByRecursion (λ t. IsOurs t.name) db.schema.tables
 
--- inside a transaction: all of the office's tables were made, hold this content, and store today's
--- version
+-- inside a transaction over the office's tables: they hold this content, and store today's version
 pub record IsMade (tables : Content) (s : State) : Type 0 where
   pub ready : IsReady s
   pub completes : Completes tables s.now.trees
+
+-- a step that succeeds on a clean disk, in a transaction that was ready, leaves the office's tables
+-- with this content and today's version
+abbrev pub TurnsToday : {A E : Type 0} → Result A E → Content → State → State → Type 0
+TurnsToday result tables old new = HasCleanDisk new → OnOk result (IsReady old → IsMade tables new)
 
 -- the fault tells what the tables hold: it is Version or Damaged
 abbrev pub TellsOfTables : OpenFault → Type 0

@@ -1,5 +1,5 @@
 -- The rows of version 1 in the cells of `timing` and `draft`, and what is put in their place.
-use Rattle.std.specs.Prelude.{◌≡◌, ◌≢◌, ℕ, Bool, true, false, if◌then◌else◌, List, [], ◌∷◌, ◌++◌, map, length, Some, is_some, Result, Err}
+use Rattle.std.specs.Prelude.{◌≡◌, ◌≢◌, ℕ, Bool, true, false, if◌then◌else◌, List, [], ◌∷◌, ◌++◌, map, length, Some, is_some}
 use Rattle.std.specs.Int.{IsInRange}
 use Rattle.std.specs.List.{AllByRecursion, list_all}
 use Rattle.std.specs.FinMap.{get, entries}
@@ -16,13 +16,7 @@ use Rattle.office_tables_shelf.specs.Cells.{Cell, TableRows}
 use Rattle.office_tables_shelf.specs.Rows.{timing_key, timing_columns_in, draft_key, left_columns_in}
 use Rattle.office_tables_shelf.specs.declared.rows.RowChange.{RowChange}
 use Rattle.office_tables_shelf.specs.declared.rows.RowChange.TheVariants.{PutTiming, PutDraft}
-use Rattle.office_tables_shelf.specs.declared.shelf.ShelfFault.{ShelfFault}
-use Rattle.office_tables_shelf.specs.declared.shelf.ShelfFault.TheVariants as fault
 use Rattle.office_tables_statements.specs.Listed.{shown_key, shown_body}
-
--- where the result reports damage and the row has five columns, this holds
-abbrev pub OnDamage : {A : Type 0} → Result A ShelfFault → SqlRow → Type 0 → Type 0
-OnDamage result row holds = result ≡ Err fault.Damaged → length row ≡ 5 → holds
 
 -- the cells in which version 1 kept a row or a removal under an intersection
 abbrev pub former_cells : ℕ × Change → List Cell × List Cell

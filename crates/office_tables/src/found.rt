@@ -16,7 +16,7 @@ ghost use Rattle.office_tables.specs.Opening.{IsAsFound, MayMake};
 ghost use Rattle.office_tables_sql.specs.Promises.{IsSettled};
 ghost use Rattle.office_tables_sql.specs.Version.{version_of};
 
-use crate::gather::{Moved, gather_eight, read_named};
+use crate::gather::{CHILDREN_FIRST, Moved, gather, read_named};
 use crate::open::OpenFault;
 use crate::version::VERSION;
 use office_tables_statements::schema::{are_of_office, is_name};
@@ -178,7 +178,8 @@ fn look<S: Store>(alloc: Global, store: &mut S, tables: &[Table]) -> Result<Look
         store.old store.new }
 {
     let version = read_named(alloc, store, tables, KEEPER)?;
-    let eight = gather_eight(alloc, store, tables)?;
+    let mut eight = Vec::new(alloc);
+    gather(alloc, store, tables, &CHILDREN_FIRST, &mut eight)?;
     match refusal(tables, version.as_slice(), eight.as_slice()) {
         None => Ok(Ok(eight)),
         Some(why) => Ok(Err(why)),

@@ -4,7 +4,6 @@
 ghost use Rattle.std.specs.Prelude.{◌≡◌, ◌++◌, map, IfOk, OnOk};
 ghost use Rattle.sqlite_trees.specs.View.{IsClean, IsQuiet};
 ghost use Rattle.office_tables.specs.Arranged.{IsUnchanged};
-ghost use Rattle.office_tables.specs.Found.{eight_rows};
 ghost use Rattle.office_tables.specs.Moved.{part_moved, rows_named, moved_from};
 
 use office_tables_shelf::rows::Table;
@@ -63,8 +62,9 @@ pub(crate) fn read_named<S: Store>(
     read_named(alloc, store, tables, name)
 }
 
-/// Appends each of the tables `homes`, in order, with the rows that stand under its name.
-fn gather<S: Store>(
+/// Appends each of the tables `homes`, in order, with the rows that stand under its name; a table
+/// that is missing has none. The error is the store's, or want of memory.
+pub(crate) fn gather<S: Store>(
     alloc: Global,
     store: &mut S,
     tables: &[SqlTable],
@@ -86,23 +86,4 @@ fn gather<S: Store>(
     let rows = read_named(alloc, store, tables, name_of(table))?;
     moved.push(Moved { table, rows })?;
     gather(alloc, store, tables, homes, moved)
-}
-
-/// The rows of the office's eight tables beside `office_version`, those first that refer to others;
-/// a table that is missing has none. The error is the store's, or want of memory.
-pub(crate) fn gather_eight<S: Store>(
-    alloc: Global,
-    store: &mut S,
-    tables: &[SqlTable],
-) -> Result<Vec<Moved>, StoreError>
-    ensures rows { IsClean (S.Store.view store.new) → IfOk result (λ all.
-        map part_moved all.items ≡ eight_rows tables.now (S.Store.view store.old).trees) }
-    ensures same { IsClean (S.Store.view store.new) →
-        OnOk result (IsUnchanged (S.Store.view store.old) (S.Store.view store.new)) }
-    ensures quiet { IsQuiet S.Store.view S.Store.faults S.Store.recovers S.Store.is_shielded
-        store.old store.new }
-{
-    let mut all = Vec::new(alloc);
-    gather(alloc, store, tables, &CHILDREN_FIRST, &mut all)?;
-    Ok(all)
 }

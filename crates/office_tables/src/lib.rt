@@ -3,7 +3,6 @@
 //! version 1 is brought to today's.
 #![tactic(auto)]
 
-mod former;
 pub mod found;
 mod gather;
 mod listing;

@@ -3,11 +3,10 @@
 ghost use Rattle.std.specs.Prelude.{◌≡◌, true, false, map, Err, IfOk, IfErr, OnOk};
 ghost use Rattle.sqlite.specs.State.{HasCleanDisk, Survives};
 ghost use Rattle.sqlite.specs.Held.{state};
-ghost use Rattle.office_tables_statements.specs.Schema.{no_schema};
 ghost use Rattle.office_tables_shelf.specs.Content.{no_content};
 ghost use Rattle.office_tables_statements.specs.Calls.{IsHonest, IsOffice, StandsOn, StaysOpen};
 ghost use Rattle.office_tables.specs.Moved.{all_put, part_moved};
-ghost use Rattle.office_tables.specs.Opening.{AreOurs, AreRun, IsMade, IsPrepared, IsRefused};
+ghost use Rattle.office_tables.specs.Opening.{AreOurs, AreRun, IsMade, IsOpened, IsRefused};
 ghost use Rattle.office_tables_sql.specs.Promises.{IsSettled, KeepsCommitted, WasHonest};
 ghost use Rattle.office_tables.specs.Arranged.{IsArrangedIfClean};
 ghost use Rattle.office_tables_sql.specs.Version.{Completes};
@@ -15,11 +14,11 @@ ghost use Rattle.office_tables_sql.specs.Version.{Completes};
 use crate::found::{has_only_ours, read_again};
 use crate::gather::Moved;
 use crate::refill::put_all;
-use crate::version::{is_today, put_version};
+use crate::sql_shelf::SqlShelf;
+use crate::version::{is_today, renew_version};
 use office_tables_shelf::shelf::ShelfFault;
 use office_tables_statements::schema::{CREATES, is_office};
 use office_tables_statements::statement::SqlFault;
-use signal_records::NoMemory;
 use sqlite::{Alter, Connection, Transaction};
 use std::alloc::Global;
 
@@ -70,17 +69,6 @@ impl From<ShelfFault> for OpenFault {
     }
 }
 
-impl From<NoMemory> for OpenFault {
-    ghost use Rattle.std.specs.Prelude.{◌≡◌};
-    ghost use Rattle.office_tables.specs.declared.open.OpenFault.TheVariants as told;
-
-    ghost from_gives = { λ _ fault. fault ≡ told.NoMemory };
-
-    fn from(_refused: NoMemory) -> OpenFault {
-        OpenFault::NoMemory
-    }
-}
-
 /// The statements that drop the office's nine tables, those first that refer to others.
 const DROPS: [&str; 9] = [
     "DROP TABLE IF EXISTS used_part",
@@ -109,22 +97,8 @@ fn run_all<S: Alter>(tx: &mut Transaction<'_, S>, texts: &[&str]) -> Result<(), 
     Ok(())
 }
 
-/// Makes all tables in the order of their numbers, and stores today's version.
-fn make_all<S: Alter>(tx: &mut Transaction<'_, S>) -> Result<(), SqlFault>
-    ensures same_reference { tx.new.conn.ghost_name ≡ tx.old.conn.ghost_name }
-    ensures stands { StandsOn (state S.Store tx.old.conn.now) (state S.Store tx.new.conn.now) }
-    ensures honest { WasHonest result (state S.Store tx.old.conn.now)
-        (state S.Store tx.new.conn.now) }
-    ensures made { HasCleanDisk (state S.Store tx.new.conn.now) →
-        tx.old.conn.now.in_transaction ≡ true → tx.old.conn.now.schema ≡ no_schema →
-        OnOk result (IsMade no_content (state S.Store tx.new.conn.now)) }
-{
-    run_all(tx, &CREATES)?;
-    put_version(tx)
-}
-
-/// Drops the office's tables, makes all of them, stores today's version, and puts the rows into
-/// them.
+/// Drops the office's tables, makes all of them in the order of their numbers, puts the rows into
+/// them, and stores today's version.
 fn make_again<S: Alter>(
     alloc: Global,
     tx: &mut Transaction<'_, S>,
@@ -140,8 +114,10 @@ fn make_again<S: Alter>(
         (state S.Store tx.new.conn.now)) }
 {
     run_all(tx, &DROPS)?;
-    make_all(tx)?;
-    put_all(alloc, tx, eight)
+    run_all(tx, &CREATES)?;
+    put_all(alloc, tx, eight)?;
+    renew_version(tx)?;
+    Ok(())
 }
 
 /// Makes the office's tables again with these rows, in one transaction: all of it, or nothing.
@@ -176,15 +152,15 @@ pub type Left<S> = Result<Connection<S>, S>;
 /// Why tables were refused, and what is left of the database.
 pub type Refused<S> = (OpenFault, Left<S>);
 
-/// Makes the tables of a database again, with the rows that they have and today's version. It does
-/// so where today's version is stored in tables that are the office's but for their numbers, or
-/// where no version is stored and no table has a row; else it refuses.
+/// A shelf over the tables of a database, which are made again with the rows that they have and
+/// today's version. It does so where today's version is stored in tables that are the office's but
+/// for their numbers, or where no version is stored and no table has a row; else it refuses.
 fn made_again<S: Alter + Drop>(
     alloc: Global,
     conn: Connection<S>,
-) -> Result<Connection<S>, Refused<S>>
+) -> Result<SqlShelf<S>, Refused<S>>
     requires { IsSettled (state S.Store conn) }
-    ensures prepared { IfOk result (λ c. IsPrepared (state S.Store conn) (state S.Store c)) }
+    ensures opened { IfOk result (IsOpened S.Store conn) }
     ensures refused { IfErr result (λ e. IsRefused S.Store conn e.0 e.1) }
 {
     let (told, mut conn) = match read_again(alloc, conn) {
@@ -199,53 +175,39 @@ fn made_again<S: Alter + Drop>(
         return Err((OpenFault::Store, Ok(conn)));
     }
     match make_tables(alloc, &mut conn, eight) {
-        Ok(()) => Ok(conn),
+        Ok(()) => Ok(SqlShelf::over(conn)),
         Err(fault) => Err((OpenFault::from(fault), Ok(conn))),
     }
 }
 
-/// Takes a database that has the office's tables: as it is where today's version is stored, and
-/// with tables that are made again where no version is stored and no table has a row. Else it
-/// refuses.
-fn take_tables<S: Alter + Drop>(
-    alloc: Global,
-    mut conn: Connection<S>,
-) -> Result<Connection<S>, Refused<S>>
-    requires office { IsOffice (state S.Store conn) }
-    requires arranged { IsArrangedIfClean (state S.Store conn) }
-    ensures prepared { IfOk result (λ c. IsPrepared (state S.Store conn) (state S.Store c)) }
-    ensures refused { IfErr result (λ e. IsRefused S.Store conn e.0 e.1) }
-{
-    match is_today(&mut conn) {
-        Ok(true) => Ok(conn),
-        Ok(false) => made_again(alloc, conn),
-        Err(fault) => Err((OpenFault::from(fault), Ok(conn))),
+impl<S: Alter> SqlShelf<S> {
+    /// Opens the tables of the office as `open_returning` does, in a database whose rows are known
+    /// to be in order, as those of files are that were just opened, and which is not checked again.
+    pub fn open_arranged(
+        alloc: Global,
+        mut conn: Connection<S>,
+    ) -> Result<SqlShelf<S>, (OpenFault, Left<S>)>
+    where
+        S: Drop,
+        requires { IsArrangedIfClean (state S.Store conn) }
+        ensures opened { IfOk result (IsOpened S.Store conn) }
+        ensures refused { IfErr result (λ e. IsRefused S.Store conn e.0 e.1) }
+        ensures under_way { (state S.Store conn).in_transaction ≡ true →
+            result ≡ Err (OpenFault.Store, Ok conn) }
+    {
+        if !conn.is_autocommit() {
+            return Err((OpenFault::Store, Ok(conn)));
+        }
+        if !is_office(conn.schema()) {
+            if has_only_ours(conn.schema()) {
+                return made_again(alloc, conn);
+            }
+            return Err((OpenFault::Store, Ok(conn)));
+        }
+        match is_today(&mut conn) {
+            Ok(true) => Ok(SqlShelf::over(conn)),
+            Ok(false) => made_again(alloc, conn),
+            Err(fault) => Err((OpenFault::from(fault), Ok(conn))),
+        }
     }
-}
-
-/// The database with the tables of the office and today's version. All are made where there are
-/// none, where some are missing or have other numbers, or where no version and no row is stored;
-/// those that are there keep their rows. Where it refuses, `OpenFault` says why, and what is left
-/// of the database comes back with its last commit; after a commit that failed, a crash may also
-/// leave the tables that were to be made.
-pub fn prepare_tables<S: Alter + Drop>(
-    alloc: Global,
-    conn: Connection<S>,
-) -> Result<Connection<S>, Refused<S>>
-    requires { IsArrangedIfClean (state S.Store conn) }
-    ensures prepared { IfOk result (λ c. IsPrepared (state S.Store conn) (state S.Store c)) }
-    ensures under_way { (state S.Store conn).in_transaction ≡ true →
-        result ≡ Err (OpenFault.Store, Ok conn) }
-    ensures refused { IfErr result (λ e. IsRefused S.Store conn e.0 e.1) }
-{
-    if !conn.is_autocommit() {
-        return Err((OpenFault::Store, Ok(conn)));
-    }
-    if is_office(conn.schema()) {
-        return take_tables(alloc, conn);
-    }
-    if has_only_ours(conn.schema()) {
-        return made_again(alloc, conn);
-    }
-    Err((OpenFault::Store, Ok(conn)))
 }

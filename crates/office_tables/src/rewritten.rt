@@ -1,12 +1,11 @@
 //! The rows of version 1 that are spelled otherwise today, and what is put in their place.
 
-ghost use Rattle.std.specs.Prelude.{◌≡◌, true, false, IfOk, OnOk};
+ghost use Rattle.std.specs.Prelude.{◌≡◌, ◌++◌, true, false, OnOk};
 ghost use Rattle.office_tables.specs.Rewritten.{has_ped, are_rows, timing_puts, draft_puts};
 
 use office_tables_shelf::rows::RowChange;
 use office_tables_shelf::shelf::ShelfFault;
 use signal_records::{Change, InterId, NoMemory, Row};
-use std::alloc::Global;
 
 /// How many rows were written anew when tables of version 1 were brought to today's version: those
 /// of phases with a pedestrian part.
@@ -29,18 +28,18 @@ fn has_pedestrian_part(change: &Change) -> bool
     }
 }
 
-/// The rows of phases with a pedestrian part among those of `timing`, in order, as changes that put
-/// them again. `Damaged` means that there is a removal, which `timing` cannot keep; `NoMemory`,
-/// that a growth was refused.
-pub fn timing_changes(
-    alloc: Global,
+/// Appends the rows of phases with a pedestrian part among those of `timing`, in order, as changes
+/// that put them again. `Damaged` means that there is a removal, which `timing` cannot keep;
+/// `NoMemory`, that a growth was refused.
+pub(crate) fn put_timing(
     kept: Vec<(InterId, Change)>,
-) -> Result<Vec<RowChange>, ShelfFault>
-    ensures puts { IfOk result (λ changes. changes.items ≡ timing_puts kept.items) }
+    changes: &mut Vec<RowChange>,
+) -> Result<(), ShelfFault>
+    ensures puts { OnOk result (
+        changes.new.items ≡ changes.old.items ++ timing_puts kept.items) }
     ensures rows { OnOk result (are_rows kept.items ≡ true) }
     ensures damaged { result ≡ Err ShelfFault.Damaged → are_rows kept.items ≡ false }
 {
-    let mut changes = Vec::new(alloc);
     for (id, change) in kept {
         let is_rewritten = has_pedestrian_part(&change);
         let Change::Put(row) = change else {
@@ -52,22 +51,21 @@ pub fn timing_changes(
             };
         }
     }
-    Ok(changes)
+    Ok(())
 }
 
-/// The rows of phases with a pedestrian part among those of `draft`, in order, as changes that put
-/// them again. `NoMemory` means that a growth was refused.
-pub fn draft_changes(
-    alloc: Global,
+/// Appends the rows of phases with a pedestrian part among those of `draft`, in order, as changes
+/// that put them again. `NoMemory` means that a growth was refused.
+pub(crate) fn put_draft(
     kept: Vec<(InterId, Change)>,
-) -> Result<Vec<RowChange>, NoMemory>
-    ensures { IfOk result (λ changes. changes.items ≡ draft_puts kept.items) }
+    changes: &mut Vec<RowChange>,
+) -> Result<(), NoMemory>
+    ensures { OnOk result (changes.new.items ≡ changes.old.items ++ draft_puts kept.items) }
 {
-    let mut changes = Vec::new(alloc);
     for (id, change) in kept {
         if has_pedestrian_part(&change) {
             changes.push(RowChange::PutDraft(id, change))?;
         }
     }
-    Ok(changes)
+    Ok(())
 }

@@ -2,20 +2,15 @@
 
 ghost use Rattle.std.specs.Prelude.{◌≡◌, true, false, Ok, Err, IfOk, IfErr};
 ghost use Rattle.sqlite.specs.Files.{file_state};
-ghost use Rattle.sqlite.specs.State.{Survives};
 ghost use Rattle.sqlite.specs.Held.{state};
-ghost use Rattle.office_tables_statements.specs.Calls.{IsHonest, StaysOpen};
-ghost use Rattle.office_tables.specs.Migrate.{Brings, StandsAnew, MayBecome, StaysIdle, TellsVersion, TellsDamage};
-ghost use Rattle.office_tables_sql.specs.Promises.{KeepsCommitted, Settles};
-ghost use Rattle.office_tables.specs.Arranged.{IsArrangedIfClean};
+ghost use Rattle.office_tables_statements.specs.Calls.{IsHonest};
+ghost use Rattle.office_tables_shelf.specs.Counts.{no_writes};
 ghost use Rattle.office_tables.specs.SqlShelf.{IsCurrent};
 ghost use Rattle.office_tables.specs.Opening.{HasOtherVersion, HasRowsAlone, StaysClean, IsOpened, IsRefused};
 ghost use Rattle.office_tables_statements.specs.Schema.{office_schema};
 
 use crate::found::{check_again, has_only_ours};
-use crate::migrate::migrate;
-use crate::open::{Left, OpenFault, prepare_tables};
-use crate::rewritten::Migrated;
+use crate::open::{Left, OpenFault};
 use cabinet_core::{Day, Hand, Inspection, Order, PartCode, UsedLine};
 use office_tables_shelf::counts::WriteCounts;
 use office_tables_shelf::register::{RegisterKey, RegisterRecord};
@@ -49,26 +44,15 @@ impl<S: Alter> Model for SqlShelf<S> {
     ghost invariant = { λ s. IsCurrent (state S.Store s.conn) };
 }
 
-/// Why tables were refused. What is left of their database is dropped, as it is.
-fn open_fault<L: Drop>(refused: (OpenFault, L)) -> OpenFault
-    ensures { result ≡ refused.0 }
-{
-    let (fault, _) = refused;
-    fault
-}
-
 impl<S: Alter> SqlShelf<S> {
     /// Opens the tables of the office in a database whose tables all have the office's names. Those
     /// of today's version are taken, and where some are missing all are made, and those that were
     /// there keep their rows. Where no version is stored and no table has a row, all are made,
     /// whatever their layout, and today's version is stored.
     ///
-    /// `Version` means that another version is stored, `Damaged` that a table has a row and no
-    /// version is stored, `Store` that the database refused, that it has other tables or a view, or
-    /// a version in tables of another layout, or that a transaction is under way, `NoMemory` that a
-    /// growth was refused. What is left of a database that was refused is dropped: `open_returning`
-    /// gives it back. That `Version` and `Damaged` tell the truth is known where no disk can fail,
-    /// as in memory; over files, nothing is known of a store that was dropped.
+    /// What is left of a database that was refused is dropped: `open_returning` gives it back. That
+    /// `Version` and `Damaged` tell the truth is known where no disk can fail, as in memory; over
+    /// files, nothing is known of a store that was dropped.
     pub fn open(alloc: Global, conn: Connection<S>) -> Result<SqlShelf<S>, OpenFault>
     where
         S: Drop,
@@ -83,20 +67,14 @@ impl<S: Alter> SqlShelf<S> {
     {
         match SqlShelf::open_returning(alloc, conn) {
             Ok(shelf) => Ok(shelf),
-            Err(refused) => Err(open_fault(refused)),
+            Err((fault, _)) => Err(fault),
         }
     }
 
-    /// Opens the tables of the office: takes those of today's version, and makes all where some are
-    /// missing, or where no version and no row is stored. The database is checked again first,
-    /// which shows that the rows of each table are in order. Where it refuses, what is left comes
-    /// back: the connection, in which a transaction that was under way goes on, or its store where
-    /// the database was not checked again.
-    ///
-    /// `Version` means that another version is stored, `Damaged` that a table has a row and no
-    /// version is stored, `Store` that the database refused, that it has other tables or a view, or
-    /// a version in tables of another layout, or that a transaction is under way, `NoMemory` that a
-    /// growth was refused.
+    /// Opens the tables of the office as `open` does. The database is checked again first, which
+    /// shows that the rows of each table are in order. Where it refuses, what is left comes back:
+    /// the connection, in which a transaction that was under way goes on, or its store where the
+    /// database was not checked again.
     pub fn open_returning(
         alloc: Global,
         conn: Connection<S>,
@@ -120,62 +98,16 @@ impl<S: Alter> SqlShelf<S> {
         }
     }
 
-    /// Opens the tables of the office in a database whose rows are known to be in order, as those
-    /// of files are that were just opened, and which is not read again: takes those of today's
-    /// version, and makes all where some are missing, or where no version and no row is stored.
-    /// Where it refuses, what is left comes back.
-    ///
-    /// `Version` means that another version is stored, `Damaged` that a table has a row and no
-    /// version is stored, `Store` that the database refused, that it has other tables or a view, or
-    /// a version in tables of another layout, or that a transaction is under way, `NoMemory` that a
-    /// growth was refused.
-    pub fn open_arranged(
-        alloc: Global,
-        conn: Connection<S>,
-    ) -> Result<SqlShelf<S>, (OpenFault, Left<S>)>
-    where
-        S: Drop,
-        requires { IsArrangedIfClean (state S.Store conn) }
-        ensures opened { IfOk result (IsOpened S.Store conn) }
-        ensures refused { IfErr result (λ e. IsRefused S.Store conn e.0 e.1) }
-        ensures under_way { (state S.Store conn).in_transaction ≡ true →
-            result ≡ Err (OpenFault.Store, Ok conn) }
+    /// A shelf over tables that have today's version, of which no write is counted yet.
+    pub(crate) fn over(conn: Connection<S>) -> SqlShelf<S>
+        requires { IsCurrent (state S.Store conn) }
+        ensures same { result.conn ≡ conn }
+        ensures unwritten { result.counts ≡ no_writes }
     {
-        match prepare_tables(alloc, conn) {
-            Ok(conn) => Ok(SqlShelf {
-                conn,
-                counts: WriteCounts::new(),
-            }),
-            Err(refused) => Err(refused),
+        SqlShelf {
+            conn,
+            counts: WriteCounts::new(),
         }
-    }
-
-    /// Brings the tables of a database from version 1 to today's version, all or none: each row of
-    /// `timing` and `draft` is spelled as it is today, and today's version is stored. On tables of
-    /// today's version it changes nothing. It gives how many rows it wrote anew.
-    ///
-    /// `Version` means that another version is stored or none, whatever the layout of the tables,
-    /// `Damaged` that a row of `timing` or `draft` is none of version 1, `Store` that the database
-    /// refused, that the tables have another layout, or that a transaction is under way, `NoMemory`
-    /// that a growth was refused; the tables are then as they were. What is stored in other tables
-    /// is not looked at. The rows have to be known to be in order, as those of files that were just
-    /// opened are.
-    pub fn migrate(alloc: Global, conn: &mut Connection<S>) -> Result<Migrated, OpenFault>
-        requires { IsArrangedIfClean (state S.Store conn.old) }
-        ensures brought { Brings result (state S.Store conn.old) (state S.Store conn.new) }
-        ensures stands { StandsAnew result (state S.Store conn.old) (state S.Store conn.new) }
-        ensures version { TellsVersion S.Store result conn.old conn.new }
-        ensures damaged { TellsDamage result (state S.Store conn.old) (state S.Store conn.new) }
-        ensures unchanged { KeepsCommitted result (state S.Store conn.old)
-            (state S.Store conn.new) }
-        ensures crash { Survives (state S.Store conn.old) (state S.Store conn.new)
-            (MayBecome (state S.Store conn.old).committed.trees) }
-        ensures settled { Settles result (state S.Store conn.new) }
-        ensures open { StaysOpen result (state S.Store conn.new) }
-        // Done or refused, it leaves no transaction open, and so nothing that is not committed.
-        ensures idle { StaysIdle (state S.Store conn.old) (state S.Store conn.new) }
-    {
-        migrate(alloc, conn)
     }
 
     /// Does nothing. Its contract says what holds of a shelf at any time: its tables are the

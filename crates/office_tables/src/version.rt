@@ -3,10 +3,11 @@
 ghost use Rattle.std.specs.Prelude.{◌≡◌, ◌≢◌, length, Some, IsTrue, IfOk, IfSome};
 ghost use Rattle.std.specs.Option.{option_map};
 ghost use Rattle.sqlite.specs.Held.{state};
-ghost use Rattle.office_tables_statements.specs.Stored.{cells};
+ghost use Rattle.office_tables_statements.specs.Stored.{cells, content_now};
 ghost use Rattle.office_tables_statements.specs.Calls.{IsHonest, IsOffice, Keeps, StandsOn, StaysOpen};
 ghost use Rattle.office_tables_sql.specs.Version.{version_in, version_cells, current_version};
-ghost use Rattle.office_tables_sql.specs.Promises.{WasHonest, StaysReady, StaysSame, StoresToday};
+ghost use Rattle.office_tables_sql.specs.Promises.{WasHonest};
+ghost use Rattle.office_tables.specs.Opening.{TurnsToday};
 
 use office_tables_statements::statement::{SqlFault, select_one, write};
 use sqlite::{Alter, Connection, Row, Transaction, params};
@@ -48,54 +49,18 @@ pub fn is_version(row: &Row, version: u32) -> Result<bool, SqlFault>
     Ok(number? == i64::from(version))
 }
 
-/// Removes the stored version, if there is one.
-fn drop_version<S: Alter>(tx: &mut Transaction<'_, S>) -> Result<(), SqlFault>
-    ensures same_reference { tx.new.conn.ghost_name ≡ tx.old.conn.ghost_name }
-    ensures honest { WasHonest result (state S.Store tx.old.conn.now)
-        (state S.Store tx.new.conn.now) }
-    ensures ready { StaysReady result (state S.Store tx.old.conn.now)
-        (state S.Store tx.new.conn.now) }
-    ensures same { StaysSame result (state S.Store tx.old.conn.now)
-        (state S.Store tx.new.conn.now) }
-    ensures stands { StandsOn (state S.Store tx.old.conn.now) (state S.Store tx.new.conn.now) }
-{
-    write(tx, DROP, params![1u32])?;
-    Ok(())
-}
-
-/// Stores today's version.
-pub(crate) fn put_version<S: Alter>(tx: &mut Transaction<'_, S>) -> Result<(), SqlFault>
-    ensures same_reference { tx.new.conn.ghost_name ≡ tx.old.conn.ghost_name }
-    ensures honest { WasHonest result (state S.Store tx.old.conn.now)
-        (state S.Store tx.new.conn.now) }
-    ensures ready { StaysReady result (state S.Store tx.old.conn.now)
-        (state S.Store tx.new.conn.now) }
-    ensures same { StaysSame result (state S.Store tx.old.conn.now)
-        (state S.Store tx.new.conn.now) }
-    ensures stored { StoresToday result (state S.Store tx.old.conn.now)
-        (state S.Store tx.new.conn.now) }
-    ensures stands { StandsOn (state S.Store tx.old.conn.now) (state S.Store tx.new.conn.now) }
-{
-    write(tx, PUT, params![1u32, VERSION])?;
-    Ok(())
-}
-
-/// Stores today's version in the place of the one that is stored. `Store` means that the database
-/// refused, `NoMemory` that a growth was refused.
+/// Stores today's version in the place of the one that is stored, if there is one. `Store` means
+/// that the database refused, `NoMemory` that a growth was refused.
 pub fn renew_version<S: Alter>(tx: &mut Transaction<'_, S>) -> Result<(), SqlFault>
     ensures same_reference { tx.new.conn.ghost_name ≡ tx.old.conn.ghost_name }
     ensures honest { WasHonest result (state S.Store tx.old.conn.now)
         (state S.Store tx.new.conn.now) }
-    ensures ready { StaysReady result (state S.Store tx.old.conn.now)
-        (state S.Store tx.new.conn.now) }
-    ensures same { StaysSame result (state S.Store tx.old.conn.now)
-        (state S.Store tx.new.conn.now) }
-    ensures stored { StoresToday result (state S.Store tx.old.conn.now)
-        (state S.Store tx.new.conn.now) }
+    ensures renewed { TurnsToday result (content_now (state S.Store tx.old.conn.now))
+        (state S.Store tx.old.conn.now) (state S.Store tx.new.conn.now) }
     ensures stands { StandsOn (state S.Store tx.old.conn.now) (state S.Store tx.new.conn.now) }
 {
-    drop_version(tx)?;
-    put_version(tx)?;
+    write(tx, DROP, params![1u32])?;
+    write(tx, PUT, params![1u32, VERSION])?;
     Ok(())
 }
 

@@ -2,7 +2,7 @@ use Rattle.std.proofs.Common.{◌≡◌, IsTrue, false, sym, ◌∙◌, subst}
 use Rattle.std.proofs.lemmas.Bool.{true_from_ne_false, both_ways}
 use Rattle.sqlite.specs.View.{IsClean}
 use Rattle.office_tables.specs.Arranged.{IsArranged}
-use Rattle.office_tables.proofs.{ArrangedLemmas.stored_arranged, LeftLemmas.given_up}
+use Rattle.office_tables.proofs.{ArrangedLemmas.stored_arranged}
 use Rattle.office_tables.proofs.found.store_of.Goals as goal
 
 pub returns-clause-taken : goal.returns-clause-taken
@@ -20,9 +20,3 @@ returns-clause-taken g c =
       left = λ h. subst (g.S.Store.recovers c.args.conn.store) ((it.undone.kept h).committed (opened h)) (it.quiet.outcomes _ (g.met.S.Store.stays store (opened h)));
       arranged = λ h. subst IsArranged (it.undone.undone (opened h)).0 (stored_arranged view (g.met.S.Alter.listed store (unbroken h)) (g.met.S.Store.ordered store (unbroken h)));
     }
-
-pub returns-clause-found : goal.returns-clause-found
-returns-clause-found g c = given_up g.S.Store c.args.conn c.into_store-store.result c.into_store-store.ensures.undone c.into_store-store.ensures.quiet
-
-pub returns-then-is_broken-clause-left : goal.returns-then-is_broken-clause-left
-returns-then-is_broken-clause-left g c = given_up g.S.Store c.args.conn c.into_store-store.result c.into_store-store.ensures.undone c.into_store-store.ensures.quiet

@@ -1,4 +1,4 @@
-use Rattle.std.proofs.Common.{◌≡◌, true, false, IsTrue, refl, subst, rules, arith}
+use Rattle.std.proofs.Common.{◌≡◌, true, IsTrue, refl, subst, rules, arith}
 use Rattle.std.proofs.lemmas.Result.{IfOk-weaker}
 use Rattle.std.specs.Prelude.{IfOk}
 use Rattle.sqlite.specs.{Held.state, State.HasCleanDisk}
@@ -38,13 +38,3 @@ returns-clause-neither g c =
     IfOk-weaker c.are_neither.result _ _ (λ neither told yes. record { after = mid; rows = c.in_ok-rows.rows.items; shown = rw (begun, c.params-to_sql.ensures) at (it.ok early); neither = subst AreNeither c.as_slice.ensures.value (told yes) }) c.are_neither.ensures in
     let same : c.rollback.new.self.0 ≡ c.conn-2-1.given.0 = search rules in
     subst (λ h. HasCleanDisk (state g.S.Store h) → IfOk c.are_neither.result (λ neither. IsTrue neither → ShowsNeither g.S.Store old)) same whole
-
-pub returns-clause-idle : goal.returns-clause-idle
-returns-clause-idle g c =
-    let same : c.rollback.new.self.0 ≡ c.conn-2-1.given.0 = search rules in
-    subst (λ h. (state g.S.Store h).in_transaction ≡ false) same c.rollback.ensures.ended
-
-pub returns-in_err-rows-clause-idle : goal.returns-in_err-rows-clause-idle
-returns-in_err-rows-clause-idle g c =
-    let same : c.drop-tx.new.self.0 ≡ c.conn-1.given.0 = search rules in
-    subst (λ h. (state g.S.Store h).in_transaction ≡ false) same c.drop-tx.ensures.ended

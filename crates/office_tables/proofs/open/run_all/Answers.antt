@@ -1,5 +1,5 @@
-use Rattle.std.proofs.Common.{◌≡◌, true, inl, inr, map, refl, sym, subst, ◌∙◌, arith}
-use Rattle.std.proofs.{lemmas.Bool.cases_Bool, lemmas.List.drop_more, lemmas.List.drop_all}
+use Rattle.std.proofs.Common.{◌≡◌, true, inl, inr, map, sym, subst, ◌∙◌, arith}
+use Rattle.std.proofs.{lemmas.Bool.cases_Bool, lemmas.List.drop_more}
 use Rattle.sqlite.specs.Held.{state}
 use Rattle.office_tables_statements.proofs.CallLemmas.{ran_stands, stands_then}
 use Rattle.office_tables.specs.Opening.{AreRun}
@@ -23,9 +23,3 @@ loop-sql-preserved g c =
                 (new, c.in_ok-execute.field-0, ran, rest)),
           ),
     )
-
-pub returns-clause-run : goal.returns-clause-run
-returns-clause-run g c clean begun =
-    let now = c.loop-sql.tx.conn.now in
-    let none = drop_all c.loop-sql.sql-index c.args.texts.now (omega (arith, c.loop-sql-test.false)) in
-    (c.loop-sql.invariant.2 clean begun).1 now (subst (λ texts. AreRun g.S.Store (map (λ text. text.now) texts) now now) (sym none) refl)

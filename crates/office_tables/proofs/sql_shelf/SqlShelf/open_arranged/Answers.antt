@@ -1,25 +1,35 @@
-use Rattle.std.proofs.Common.{◌≡◌, IsTrue, sym, ap, subst, ◌∙◌}
-use Rattle.sqlite.specs.{Effect.Database, Held.state, State.State, Tree.Trees}
-use Rattle.office_tables.specs.{Opening.IsPrepared, SqlShelf.IsCurrent}
-use Rattle.office_tables_sql.specs.{Version.AreToday}
-use Rattle.office_tables.proofs.OpenLemmas.{opened_over}
+use Rattle.std.proofs.Common.{sym, ◌∙◌}
+use Rattle.std.proofs.lemmas.{Bool.not-true, Result.IfErr-weaker, Result.IfOk-weaker}
+use Rattle.sqlite.specs.Held.{state}
+use Rattle.office_tables.proofs.LeftLemmas.{opened_before, refused_before}
+use Rattle.office_tables.proofs.OpenLemmas.{arranged_office, asked_again, current, opened_over, today_prepared}
 use Rattle.office_tables.proofs.sql_shelf.SqlShelf.open_arranged.Goals as goal
 
--- tables that were prepared on a clean disk leave the version that they store
-current : (old s : State) → IsPrepared old s → ((trees : Trees) → IsTrue s.is_open → s.may_leave trees → trees ≡ s.committed.trees) → IsCurrent s
-current old s it settled = record {
-  office = it.office;
-  stored = λ h. (it.taken h).today.stored;
-  left = λ clean trees left.
-      let honest = it.opened clean in
-      let same = settled trees honest.1 left ∙ sym (ap (λ (d : Database). d.trees) (it.office.settled honest)) in
-      subst AreToday (sym same) (it.taken honest).today;
-}
+pub is_today-requires : goal.is_today-requires
+is_today-requires g c =
+    let s = state g.S.Store c.args.conn in
+    arranged_office s (not-true s.in_transaction (sym c.is_autocommit.ensures.value ∙ c.if-not-is_autocommit.false)) (sym c.schema.ensures.value ∙ c.is_office.ensures.is c.if-not-is_office.false)
+    (λ h. c.is_autocommit.ensures.settled c.if-not-is_autocommit.false h.1) (λ h. (c.schema.ensures.live h.1).0) c.requires
 
-pub invariant_of-result : goal.invariant_of-result
-invariant_of-result g c =
-    current (state g.S.Store c.args.conn) (state g.S.Store c.in-Ok.conn) c.in-Ok.ensures.prepared (g.met.S.Store.settled c.in-Ok.conn.store)
+pub over-requires : goal.over-requires
+over-requires g c =
+    let it = c.in-Ok-true.ensures in
+    current (state g.S.Store c.args.conn) (state g.S.Store c.is_today.new.conn) (today_prepared _ _ (λ h. c.is_autocommit.ensures.settled c.if-not-is_autocommit.false h.1) it.kept it.open (λ h. it.today h c.in-Ok-true.field-0-test)) (g.met.S.Store.settled c.is_today.new.conn.store)
 
-pub returns-in-Ok-clause-opened : goal.returns-in-Ok-clause-opened
-returns-in-Ok-clause-opened g c =
-    opened_over g.S.Store c.args.conn _ c.new.ensures c.in-Ok.ensures.prepared (g.met.S.Store.settled c.in-Ok.conn.store)
+pub returns-in-Ok-true-clause-opened : goal.returns-in-Ok-true-clause-opened
+returns-in-Ok-true-clause-opened g c =
+    let it = c.in-Ok-true.ensures in
+    opened_over g.S.Store c.args.conn c.is_today.new.conn (today_prepared _ _ (λ h. c.is_autocommit.ensures.settled c.if-not-is_autocommit.false h.1) it.kept it.open (λ h. it.today h c.in-Ok-true.field-0-test))
+    (g.met.S.Store.settled c.is_today.new.conn.store) c.over.result c.over.ensures.same c.over.ensures.unwritten
+
+pub returns-in-Ok-false-clause-opened : goal.returns-in-Ok-false-clause-opened
+returns-in-Ok-false-clause-opened g c =
+    let it = c.in-Ok-false.ensures in
+    let again = asked_again (state g.S.Store c.args.conn) (state g.S.Store c.is_today.new.conn) (λ h. c.is_autocommit.ensures.settled c.if-not-is_autocommit.false h.1) it.kept it.open c.requires in
+    IfOk-weaker c.made_again-in-Ok-false.result _ _ (opened_before g.S.Store c.args.conn c.is_today.new.conn again) c.made_again-in-Ok-false.ensures.opened
+
+pub returns-in-Ok-false-clause-refused : goal.returns-in-Ok-false-clause-refused
+returns-in-Ok-false-clause-refused g c =
+    let it = c.in-Ok-false.ensures in
+    let again = asked_again (state g.S.Store c.args.conn) (state g.S.Store c.is_today.new.conn) (λ h. c.is_autocommit.ensures.settled c.if-not-is_autocommit.false h.1) it.kept it.open c.requires in
+    IfErr-weaker c.made_again-in-Ok-false.result _ _ (λ e. refused_before g.S.Store c.args.conn c.is_today.new.conn again e.0 e.1) c.made_again-in-Ok-false.ensures.refused

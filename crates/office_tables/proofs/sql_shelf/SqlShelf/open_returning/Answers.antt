@@ -1,17 +1,6 @@
 use Rattle.std.proofs.lemmas.Result.{IfOk-weaker, IfErr-weaker}
-use Rattle.office_tables.proofs.LeftLemmas.{opened_before, refused_before, refused_found, refused_given}
+use Rattle.office_tables.proofs.LeftLemmas.{opened_before, refused_before}
 use Rattle.office_tables.proofs.sql_shelf.SqlShelf.open_returning.Goals as goal
-
-pub returns-then-not-is_autocommit-clause-refused : goal.returns-then-not-is_autocommit-clause-refused
-returns-then-not-is_autocommit-clause-refused g c = refused_given g.S.Store c.args.conn
-
-pub returns-then-not-has_only_ours-clause-refused : goal.returns-then-not-has_only_ours-clause-refused
-returns-then-not-has_only_ours-clause-refused g c = refused_given g.S.Store c.args.conn
-
-pub returns-in-Err-clause-refused : goal.returns-in-Err-clause-refused
-returns-in-Err-clause-refused g c =
-    let fault = c.from.ensures in
-    refused_found g.S.Store c.args.conn _ _ fault.0 fault.1 c.in-Err.ensures.left tt
 
 pub returns-in-Ok-clause-opened : goal.returns-in-Ok-clause-opened
 returns-in-Ok-clause-opened g c =

@@ -5,7 +5,7 @@ use Rattle.signal_records.specs.Within.{IsChangeWithin, version_1_limits}
 use Rattle.office_tables_statements.specs.Listed.{shown_key, shown_body}
 use Rattle.office_tables.specs.Rewritten.{former_cells, shown_cells}
 use Rattle.office_tables.proofs.ListsAll.{both, all_shown, five_wide, stored_at}
-use Rattle.office_tables.proofs.listing.list.Goals as goal
+use Rattle.office_tables.proofs.listing.former_rows.Goals as goal
 
 pub returns-clause-rows : goal.returns-clause-rows
 returns-clause-rows g c =

@@ -1,7 +1,7 @@
 use Rattle.std.proofs.Common.{◌≤◌, length, rules, arith, sym, ap, ◌∙◌}
 use Rattle.office_tables_shelf.specs.Rows.{timing_key}
 use Rattle.office_tables.proofs.ListsAll.{one_key}
-use Rattle.office_tables.proofs.former.read.Goals as goal
+use Rattle.office_tables.proofs.listing.read.Goals as goal
 
 pub returns-in_err-check_key-clause-damaged : goal.returns-in_err-check_key-clause-damaged
 returns-in_err-check_key-clause-damaged c is wide id number change within keys columns =
