@@ -174,11 +174,11 @@ impl<S: Alter> Shelf for SqlShelf<S> {
         &mut self,
         alloc: Global,
     ) -> Result<Vec<(InterId, IntersectionRow)>, ShelfFault> {
-        each_row::list_all(alloc, &mut self.conn)
+        each_row::list(alloc, &mut self.conn, (), params![])
     }
 
     fn timing_rows(&mut self, alloc: Global, id: InterId) -> Result<Vec<Row>, ShelfFault> {
-        each_row::list(alloc, &mut self.conn, id)
+        each_row::list(alloc, &mut self.conn, id, params![id.get()])
     }
 
     fn committed_count(&mut self, _alloc: Global, id: InterId) -> Result<usize, ShelfFault> {
@@ -187,7 +187,7 @@ impl<S: Alter> Shelf for SqlShelf<S> {
     }
 
     fn draft_rows(&mut self, alloc: Global, id: InterId) -> Result<Vec<Change>, ShelfFault> {
-        each_row::list(alloc, &mut self.conn, id)
+        each_row::list(alloc, &mut self.conn, id, params![id.get()])
     }
 
     fn record_at(
@@ -199,7 +199,7 @@ impl<S: Alter> Shelf for SqlShelf<S> {
     }
 
     fn inspections(&mut self, alloc: Global, id: InterId) -> Result<Vec<Inspection>, ShelfFault> {
-        each_row::list(alloc, &mut self.conn, id)
+        each_row::list(alloc, &mut self.conn, id, params![id.get()])
     }
 
     fn last_inspections(&mut self, alloc: Global) -> Result<BTreeMap<InterId, Day>, ShelfFault> {
@@ -207,7 +207,7 @@ impl<S: Alter> Shelf for SqlShelf<S> {
     }
 
     fn orders(&mut self, alloc: Global, id: InterId) -> Result<Vec<Order>, ShelfFault> {
-        each_row::list(alloc, &mut self.conn, id)
+        each_row::list(alloc, &mut self.conn, id, params![id.get()])
     }
 
     fn open_orders(&mut self, alloc: Global) -> Result<BTreeMap<InterId, Vec<Order>>, ShelfFault> {
@@ -215,11 +215,11 @@ impl<S: Alter> Shelf for SqlShelf<S> {
     }
 
     fn used_lines(&mut self, alloc: Global, id: InterId) -> Result<Vec<UsedLine>, ShelfFault> {
-        each_row::list(alloc, &mut self.conn, id)
+        each_row::list(alloc, &mut self.conn, id, params![id.get()])
     }
 
     fn parts(&mut self, alloc: Global) -> Result<Vec<(PartCode, Hand)>, ShelfFault> {
-        each_row::list_all(alloc, &mut self.conn)
+        each_row::list(alloc, &mut self.conn, (), params![])
     }
 
     fn apply(&mut self, alloc: Global, changes: &[RowChange]) -> Result<(), ShelfFault> {

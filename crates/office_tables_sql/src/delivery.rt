@@ -28,6 +28,7 @@ impl StoredRow for Delivery {
 
     ghost is_within = { IsDeliveryWithin };
 
+    #[tactic(auto, unfolding(sqlite_tied::specs::Compute::everything))]
     fn texts() -> Texts {
         Texts {
             list: "SELECT part, number, day, amount FROM delivery ORDER BY part, number",
@@ -38,15 +39,11 @@ impl StoredRow for Delivery {
     }
 
     fn read(alloc: Global, _of: (), row: &Row) -> Result<Delivery, ShelfFault> {
-        let part = code_at(alloc, row, 0)?;
-        let number = ranged_at(row, 1)?;
-        let day = day_at(row, 2)?;
-        let count = ranged_at(row, 3)?;
         Ok(Delivery {
-            part,
-            number,
-            day,
-            count,
+            part: code_at(alloc, row, 0)?,
+            number: ranged_at(row, 1)?,
+            day: day_at(row, 2)?,
+            count: ranged_at(row, 3)?,
         })
     }
 

@@ -57,6 +57,7 @@ impl StoredRow for Change {
 
     ghost is_within = { IsChangeWithin current_limits };
 
+    #[tactic(auto, unfolding(sqlite_tied::specs::Compute::everything))]
     fn texts() -> Texts {
         Texts {
             list: "SELECT inter, kind, a, b, body FROM draft WHERE inter = ?1 \
@@ -102,6 +103,7 @@ impl TimingKeyed for Change {
 
     ghost keyed = { λ id key. (refl, refl) };
 
+    #[tactic(auto, unfolding(sqlite_tied::specs::Compute::everything))]
     fn remove_text() -> &'static str {
         "DELETE FROM draft WHERE inter = ?1 AND kind = ?2 AND a = ?3 AND b = ?4"
     }

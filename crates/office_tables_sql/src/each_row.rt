@@ -1,6 +1,6 @@
 //! Rows of a table, read one at a time.
 
-ghost use Rattle.std.specs.Prelude.{◌≡◌, ◌≢◌, List, [], ◌∷◌, ◌++◌, Some, None, IfOk, OnOk};
+ghost use Rattle.std.specs.Prelude.{◌≡◌, ◌≢◌, List, [], ◌∷◌, ◌++◌, IfOk, OnOk};
 ghost use Rattle.std.specs.List.{AllByRecursion};
 ghost use Rattle.sqlite.specs.Held.{state};
 ghost use Rattle.sqlite.specs.Values.{bound};
@@ -12,9 +12,9 @@ ghost use Rattle.office_tables_sql.specs.Gathers.{Gathers};
 use crate::stored_row::StoredRow;
 use office_tables_shelf::shelf::ShelfFault;
 use office_tables_statements::statement::SqlFault;
-use signal_records::{InterId, NoMemory};
+use signal_records::NoMemory;
 use sqlite::types::ValueRef;
-use sqlite::{Alter, Connection, Error, params};
+use sqlite::{Alter, Connection, Error};
 use std::alloc::Global;
 
 /// What gathers the records of a list, one after another, in the order of their keys.
@@ -44,50 +44,29 @@ fn shelf_fault(error: Error) -> ShelfFault
     ShelfFault::from(SqlFault::from(error))
 }
 
-/// The rows that a table keeps of the intersection, in the order of their keys. `Damaged` means
-/// that one of them is no record, `Store` that the database refused, `NoMemory` that a growth was
-/// refused.
-pub fn list<T: StoredRow<Of = InterId>, S: Alter>(
-    alloc: Global,
-    conn: &mut Connection<S>,
-    id: InterId,
-) -> Result<Vec<T>, ShelfFault>
-    requires office { IsOffice (state S.Store conn.old) }
-    requires whose { T.whose id ≡ Some id }
-    ensures rows { IfOk result (λ found. IsHonest (state S.Store conn.new) →
-        ListsRows T.table (T.key id) T.columns (content_now (state S.Store conn.old)) (T.whose id)
-        found.items) }
-    ensures within { IfOk result (λ found. IsHonest (state S.Store conn.new) →
-        AllByRecursion T.is_within found.items) }
-    ensures damaged { result ≡ Err ShelfFault.Damaged → IsHonest (state S.Store conn.new) →
-        HasDamagedRow T.table T.is_within (T.key id) T.columns
-        (content_now (state S.Store conn.old)) (T.whose id) }
-    ensures kept { Keeps (state S.Store conn.old) (state S.Store conn.new) }
-    ensures open { TellsOpen result (state S.Store conn.new) }
-{
-    gather_rows::<T, Vec<T>, S>(alloc, conn, id, params![id.get()], Vec::new(alloc))
-}
-
-/// All rows of a table, in the order of their keys. `Damaged` means that one of them is no record,
+/// The rows of a list, in the order of their keys. `params` are those of its query: the
+/// intersection, or none where it lists all rows. `Damaged` means that one of them is no record,
 /// `Store` that the database refused, `NoMemory` that a growth was refused.
-pub fn list_all<T: StoredRow<Of = ()>, S: Alter>(
+pub fn list<T: StoredRow, S: Alter>(
     alloc: Global,
     conn: &mut Connection<S>,
+    of: T::Of,
+    params: &[ValueRef<'_>],
 ) -> Result<Vec<T>, ShelfFault>
+    requires params { bound params.now ≡ params_of (T.whose of) }
     requires office { IsOffice (state S.Store conn.old) }
-    requires whose { T.whose tt ≡ None }
     ensures rows { IfOk result (λ found. IsHonest (state S.Store conn.new) →
-        ListsRows T.table (T.key tt) T.columns (content_now (state S.Store conn.old)) (T.whose tt)
+        ListsRows T.table (T.key of) T.columns (content_now (state S.Store conn.old)) (T.whose of)
         found.items) }
     ensures within { IfOk result (λ found. IsHonest (state S.Store conn.new) →
         AllByRecursion T.is_within found.items) }
     ensures damaged { result ≡ Err ShelfFault.Damaged → IsHonest (state S.Store conn.new) →
-        HasDamagedRow T.table T.is_within (T.key tt) T.columns
-        (content_now (state S.Store conn.old)) (T.whose tt) }
+        HasDamagedRow T.table T.is_within (T.key of) T.columns
+        (content_now (state S.Store conn.old)) (T.whose of) }
     ensures kept { Keeps (state S.Store conn.old) (state S.Store conn.new) }
     ensures open { TellsOpen result (state S.Store conn.new) }
 {
-    gather_rows::<T, Vec<T>, S>(alloc, conn, (), params![], Vec::new(alloc))
+    gather_rows::<T, Vec<T>, S>(alloc, conn, of, params, Vec::new(alloc))
 }
 
 /// Gathers the rows of a list, in the order of their keys, into `begun`, which holds none yet. No

@@ -1,6 +1,6 @@
 //! The table `inspection`: the inspections of each cabinet.
 
-ghost use Rattle.std.specs.Prelude.{◌≡◌, ℕ, Some, None, IfOk};
+ghost use Rattle.std.specs.Prelude.{◌≡◌, ℕ, Some, IfOk};
 ghost use Rattle.sqlite.specs.Held.{state};
 ghost use Rattle.cabinet_core.specs.Overdue.{latest_day};
 ghost use Rattle.office_tables_shelf.specs.CabinetReads.{of_one, HasAnyDamagedInspection};
@@ -38,6 +38,7 @@ impl StoredRow for Inspection {
 
     ghost is_within = { IsInspectionWithin };
 
+    #[tactic(auto, unfolding(sqlite_tied::specs::Compute::everything))]
     fn texts() -> Texts {
         Texts {
             list: "SELECT inter, number, day, clerk, body FROM inspection \
@@ -53,15 +54,11 @@ impl StoredRow for Inspection {
 
     fn read(alloc: Global, id: InterId, row: &Row) -> Result<Inspection, ShelfFault> {
         check_number(row, 0, id.get())?;
-        let number = ranged_at(row, 1)?;
-        let day = day_at(row, 2)?;
-        let clerk = words_at(alloc, row, 3)?;
-        let text = words_at(alloc, row, 4)?;
         Ok(Inspection {
-            number,
-            day,
-            clerk,
-            text,
+            number: ranged_at(row, 1)?,
+            day: day_at(row, 2)?,
+            clerk: words_at(alloc, row, 3)?,
+            text: words_at(alloc, row, 4)?,
         })
     }
 

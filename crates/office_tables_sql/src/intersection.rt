@@ -41,6 +41,7 @@ impl StoredRow for IntersectionRow {
 
     ghost is_within = { IsIntersectionRow };
 
+    #[tactic(auto, unfolding(sqlite_tied::specs::Compute::everything))]
     fn texts() -> Texts {
         Texts {
             list: "SELECT id, name, days, revision, state, owner FROM intersection ORDER BY id",
@@ -54,15 +55,11 @@ impl StoredRow for IntersectionRow {
 
     fn read(alloc: Global, id: InterId, row: &Row) -> Result<IntersectionRow, ShelfFault> {
         check_number(row, 0, id.get())?;
-        let name = words_at(alloc, row, 1)?;
-        let interval = ranged_at(row, 2)?;
-        let revision = revision_at(row, 3)?;
-        let holder = holder_at(alloc, row)?;
         Ok(IntersectionRow {
-            name,
-            interval,
-            revision,
-            holder,
+            name: words_at(alloc, row, 1)?,
+            interval: ranged_at(row, 2)?,
+            revision: revision_at(row, 3)?,
+            holder: holder_at(alloc, row)?,
         })
     }
 
@@ -88,6 +85,7 @@ impl WalkedRow for IntersectionRow {
 
     ghost begins = { λ _ _. refl };
 
+    #[tactic(auto, unfolding(sqlite_tied::specs::Compute::everything))]
     fn walk_text() -> &'static str {
         "SELECT id, name, days, revision, state, owner FROM intersection ORDER BY id"
     }

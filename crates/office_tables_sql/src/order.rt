@@ -44,6 +44,7 @@ impl StoredRow for Order {
 
     ghost is_within = { IsOrderWithin };
 
+    #[tactic(auto, unfolding(sqlite_tied::specs::Compute::everything))]
     fn texts() -> Texts {
         Texts {
             list: "SELECT inter, number, opened, clerk, body, closed, closer \
@@ -59,17 +60,12 @@ impl StoredRow for Order {
 
     fn read(alloc: Global, id: InterId, row: &Row) -> Result<Order, ShelfFault> {
         check_number(row, 0, id.get())?;
-        let number = ranged_at(row, 1)?;
-        let opened = day_at(row, 2)?;
-        let clerk = words_at(alloc, row, 3)?;
-        let text = words_at(alloc, row, 4)?;
-        let closing = closing_at(alloc, row)?;
         Ok(Order {
-            number,
-            opened,
-            clerk,
-            text,
-            closing,
+            number: ranged_at(row, 1)?,
+            opened: day_at(row, 2)?,
+            clerk: words_at(alloc, row, 3)?,
+            text: words_at(alloc, row, 4)?,
+            closing: closing_at(alloc, row)?,
         })
     }
 

@@ -1,6 +1,6 @@
 //! The table `part`: how many of each part are on hand.
 
-ghost use Rattle.std.specs.Prelude.{◌≡◌, None, IfOk};
+ghost use Rattle.std.specs.Prelude.{None};
 ghost use Rattle.std.specs.FinMap.{insert};
 ghost use Rattle.office_tables_shelf.specs.CabinetRows.{part_key, part_columns};
 ghost use Rattle.office_tables_sql.specs.Promises.{Turns};
@@ -32,6 +32,7 @@ impl StoredRow for (PartCode, Hand) {
 
     ghost is_within = { IsPartWithin };
 
+    #[tactic(auto, unfolding(sqlite_tied::specs::Compute::everything))]
     fn texts() -> Texts {
         Texts {
             list: "SELECT code, hand FROM part ORDER BY code",
@@ -42,9 +43,7 @@ impl StoredRow for (PartCode, Hand) {
     }
 
     fn read(alloc: Global, _of: (), row: &Row) -> Result<(PartCode, Hand), ShelfFault> {
-        let code = code_at(alloc, row, 0)?;
-        let hand = ranged_at(row, 1)?;
-        Ok((code, hand))
+        Ok((code_at(alloc, row, 0)?, ranged_at(row, 1)?))
     }
 
     fn bind<'a>(
@@ -59,12 +58,6 @@ impl StoredRow for (PartCode, Hand) {
     }
 }
 
-fn copy_of(code: &PartCode) -> Result<PartCode, NoMemory>
-    ensures { IfOk result (λ copy. copy ≡ code.now) }
-{
-    code.clone()
-}
-
 /// Stores how many of the part are on hand, whether or not the table has it yet. `Store` means that
 /// the database refused, `NoMemory` that a growth was refused.
 pub fn put<S: Alter>(
@@ -77,6 +70,6 @@ pub fn put<S: Alter>(
       part = insert tables.part (part_key code.now) (part_columns hand);
     }) tx.old tx.new }
 {
-    let part = (copy_of(code)?, hand);
+    let part = (code.clone()?, hand);
     stored_row::put(alloc, tx, (), &part)
 }

@@ -1,6 +1,6 @@
 //! The records of the register in SQL, found by their keys.
 
-ghost use Rattle.std.specs.Prelude.{◌≡◌, IfOk, IfSome};
+ghost use Rattle.std.specs.Prelude.{IfOk, IfSome};
 ghost use Rattle.sqlite.specs.Held.{state};
 ghost use Rattle.office_tables_shelf.specs.Places.{BlamesAt, GivesAt, IsOfPlace, place_of};
 ghost use Rattle.office_tables_statements.specs.Stored.{content_now};

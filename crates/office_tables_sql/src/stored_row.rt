@@ -196,9 +196,7 @@ pub fn put<T: StoredRow, S: Alter>(
         (T.key of row.now) (T.columns row.now)) tx.old tx.new }
 {
     let mut text = String::new(alloc);
-    let Ok(values) = row.bind(alloc, of, &mut text) else {
-        return Err(SqlFault::NoMemory);
-    };
+    let values = row.bind(alloc, of, &mut text)?;
     let texts = T::texts();
     let changed = write(tx, texts.update, values.as_slice())?;
     if changed > 0 {
@@ -220,9 +218,7 @@ pub fn add<T: StoredRow, S: Alter>(
         (T.key of row.now) (T.columns row.now)) tx.old tx.new }
 {
     let mut text = String::new(alloc);
-    let Ok(values) = row.bind(alloc, of, &mut text) else {
-        return Err(SqlFault::NoMemory);
-    };
+    let values = row.bind(alloc, of, &mut text)?;
     write(tx, T::texts().insert, values.as_slice())?;
     Ok(())
 }

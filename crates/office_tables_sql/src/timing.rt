@@ -56,6 +56,7 @@ impl StoredRow for Row {
 
     ghost is_within = { IsRowWithin current_limits };
 
+    #[tactic(auto, unfolding(sqlite_tied::specs::Compute::everything))]
     fn texts() -> Texts {
         Texts {
             list: "SELECT inter, kind, a, b, body FROM timing WHERE inter = ?1 \
@@ -100,6 +101,7 @@ impl TimingKeyed for Row {
 
     ghost keyed = { λ id key. (refl, refl) };
 
+    #[tactic(auto, unfolding(sqlite_tied::specs::Compute::everything))]
     fn remove_text() -> &'static str {
         "DELETE FROM timing WHERE inter = ?1 AND kind = ?2 AND a = ?3 AND b = ?4"
     }

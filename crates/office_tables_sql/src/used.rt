@@ -29,6 +29,7 @@ impl StoredRow for UsedLine {
 
     ghost is_within = { IsUsedLineWithin };
 
+    #[tactic(auto, unfolding(sqlite_tied::specs::Compute::everything))]
     fn texts() -> Texts {
         Texts {
             list: "SELECT inter, ord, line, part, amount FROM used_part WHERE inter = ?1 \
@@ -44,15 +45,11 @@ impl StoredRow for UsedLine {
 
     fn read(alloc: Global, id: InterId, row: &Row) -> Result<UsedLine, ShelfFault> {
         check_number(row, 0, id.get())?;
-        let order = ranged_at(row, 1)?;
-        let line = ranged_at(row, 2)?;
-        let part = code_at(alloc, row, 3)?;
-        let count = ranged_at(row, 4)?;
         Ok(UsedLine {
-            order,
-            line,
-            part,
-            count,
+            order: ranged_at(row, 1)?,
+            line: ranged_at(row, 2)?,
+            part: code_at(alloc, row, 3)?,
+            count: ranged_at(row, 4)?,
         })
     }
 

@@ -1,5 +1,5 @@
 -- A row of cells that a table takes: what the statements read of its parameters, store, and show again.
-use Rattle.std.proofs.Common.{◌≡◌, ℕ, zero, suc, ◌+◌, ℤ, true, ◌&&◌, List, [], ◌∷◌, ◌++◌, map, length, get_or, Option, Ok, refl, sym, ap, subst₂, ◌∙◌, true≢false, arith}
+use Rattle.std.proofs.Common.{◌≡◌, ℕ, suc, ◌+◌, ℤ, true, List, [], ◌∷◌, ◌++◌, map, length, get_or, Option, Ok, refl, sym, ap, subst₂, ◌∙◌, true≢false, arith}
 use Rattle.std.proofs.lemmas.Bool.{and_parts}
 use Rattle.sqlite.specs.{declared.types.Value.TheVariants.Int, Edit.with_rowid, Effect.Database, Kind.Kind, Order.Row, Rowids.TheVariants.Chosen, Rows.Sourced, Rows.stamped, Term.eval_all}
 use Rattle.sqlite.specs.Kind.TheVariants as kind

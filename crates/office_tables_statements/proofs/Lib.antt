@@ -8,7 +8,6 @@ pub mod CallLemmas
 pub mod WriteLemmas
 pub mod ContentLemmas
 pub mod RemoveLemmas
-mod BodyLemmas
 pub mod BodyReading
 pub mod KeyReading
 pub mod ListedLemmas

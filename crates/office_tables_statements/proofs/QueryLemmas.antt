@@ -25,7 +25,7 @@ ArePaired [] (q ∷ qs) = ⊥
 ArePaired (p ∷ ps) [] = ⊥
 ArePaired (p ∷ ps) (q ∷ qs) = ArePaired ps qs
 
-filter_agrees : (ps qs : List ℕ) → ArePaired ps qs → (key row : Row) → list_all (holds (key ∷ row ∷ [])) (of_key ps qs) ≡ agree plain ps row qs key
+pub filter_agrees : (ps qs : List ℕ) → ArePaired ps qs → (key row : Row) → list_all (holds (key ∷ row ∷ [])) (of_key ps qs) ≡ agree plain ps row qs key
 unfolding first_key
 filter_agrees [] [] paired key row = refl
 filter_agrees [] (q ∷ qs) paired key row = absurd paired

@@ -3,21 +3,21 @@ use Rattle.std.proofs.Common.{◌≡◌, ◌≢◌, ◌⊎◌, inl, inr, ℕ, �
 use Rattle.std.proofs.{lemmas.Bool.cases_Bool, lemmas.Bool.false_from_ne_true, lemmas.List.Sorted.IsPermutation-sym}
 use Rattle.std.specs.{List.Sorted.IsPermutation, List.AllByRecursion, Ordering.is_eq, declared.cmp.Ordering.TheVariants.Equal, Cmp.tied_itself}
 use Rattle.std.specs.FinMap.{get, remove, retain_keys, same_map, get-remove, get-retain_keys}
-use Rattle.sqlite.specs.{declared.types.Value.TheVariants.Null, declared.types.Value.TheVariants.Int, Command.TheVariants.Delete, Order.Row, Order.value_cmp, Program.overlay, Edit.edit_of, Edit.without_all, Edit.id_in, Edit.taken_by, Rows.Written, Query.Query, Query.IsAnswer, Rowids.TheVariants.Given, State.State, Table.Table, Tree.Trees, Tree.rowid, Tree.has_rowid, View.IsShaped}
+use Rattle.sqlite.specs.{declared.types.Value.TheVariants.Null, declared.types.Value.TheVariants.Int, Command.TheVariants.Delete, Order.Row, Order.value_cmp, Program.overlay, Edit.edit_of, Edit.without_all, Edit.id_in, Edit.taken_by, Rows.Written, Rowids.TheVariants.Given, State.State, Table.Table, Term.Term, Term.col, Tree.Trees, Tree.rowid, Tree.has_rowid, View.IsShaped}
 use Rattle.sqlite.proofs.Callers.{one_step}
 use Rattle.sqlite_schema.specs.declared.schema.Keys.TheVariants.{Enforced}
 use Rattle.sqlite_trees.specs.declared.store.Shape.TheVariants as shape
-use Rattle.sqlite_trees.proofs.ListLemmas.{all-permutation, filter_same}
+use Rattle.sqlite_trees.proofs.ListLemmas.{all-permutation}
 use Rattle.sqlite_value.proofs.OrderLemmas.{value_cmp_total}
 use Rattle.sqlite_rules.specs.{Calls.ids_of, Lists.Has}
 use Rattle.sqlite_rules.proofs.ListLemmas.{all_has, all_from, has_filtered, has_kept}
 use Rattle.sqlite_rules.proofs.{ProbeLemmas.has_mapped, ProbeLemmas.mapped_has, TableLemmas.int_is, TableLemmas.without_all_has}
 use Rattle.office_tables_statements.specs.Schema.{office_schema}
-use Rattle.office_tables_statements.specs.{Layout.Layout, Layout.values_at, Layout.has_key, Stored.cells_at, Stored.rows_in, Stored.are_sound, Calls.IsReady, Calls.Means, Calls.Ran, Tables.found_by}
+use Rattle.office_tables_statements.specs.{Layout.Layout, Layout.values_at, Stored.cells_at, Stored.rows_in, Stored.are_sound, Calls.IsReady, Calls.Means, Calls.Ran, Tables.found_by, Tables.of_key, Tables.picked_where}
 use Rattle.office_tables_shelf.specs.Cells.{Cell, TableRows, cells_cmp}
 use Rattle.office_tables_shelf.proofs.CellLemmas.{cells_total, cells_exact, tied}
 use Rattle.office_tables_statements.proofs.StoredLemmas.{agree_ties, has_cells, get_rows, HaveKeys}
-use Rattle.office_tables_statements.proofs.QueryLemmas.{ArePaired, answers}
+use Rattle.office_tables_statements.proofs.QueryLemmas.{ArePaired, Passes, filter_agrees, where_picked}
 use Rattle.office_tables_statements.proofs.WriteLemmas.{IsIdle, went_on, same_value, shaped_without, wrote}
 use Rattle.office_tables_statements.proofs.ContentLemmas.{find_without, left_without, one_rowid}
 
@@ -103,74 +103,50 @@ removal rows key = same_map cells_total cells_exact _ _ (λ q.
     turned true o = refl
     turned false o = refl
 
--- the rows that have a key are those whose cells are its cells
-pub removed_rows : (t : Layout) (rows : List Row) (key : Row) (found : List Row)
-    → IsPermutation (map (values_at (0 ∷ [])) (filter (has_key t key) rows)) found
-    → IsShaped shape.Table rows → HaveKeys t rows → are_sound t.places key ≡ true
-    → rows_in t (without_all rows (ids_of found)) ≡ remove (rows_in t rows) (cells_at t.places key)
-removed_rows t rows key found hits shaped sound given =
-    let is_it = λ (k : List Cell). is_eq (cells_cmp k (cells_at t.places key)) in
-    let same = filter_same (has_key t key) (λ (r : Row). is_it (cells_at t.keys r)) rows
-    (all_from _ rows (λ r there. agree_ties t.keys t.places r key (sound r there) given)) in
-    dropped_rows t rows is_it found
-    (subst (λ kept. IsPermutation (map (values_at (0 ∷ [])) kept) found) same hits) shaped
-    ∙ removal (rows_in t rows) (cells_at t.places key)
+-- SQL's = finds the rows whose cells are those of the key
+pub key_passes : (t : Layout) → ArePaired t.keys t.places → (key : Row) → are_sound t.places key ≡ true → (rows : List Row) → HaveKeys t rows
+    → Passes (of_key t.keys t.places) key (λ row. is_eq (cells_cmp (cells_at t.keys row) (cells_at t.places key))) rows
+key_passes t paired key given rows sound row there =
+    filter_agrees t.keys t.places paired key row ∙ agree_ties t.keys t.places row key (sound row there) given
 
 -- ---- the statement
 
--- the rows that pass are taken out of the table, and no other table is written
-pub record Loses (test : Row → Bool) (tree : ℕ) (old new : Trees) : Type 0 where
-  pub found : List Row
-  pub hits : IsPermutation (map (values_at (0 ∷ [])) (filter test (old tree))) found
-  pub left : new tree ≡ without_all (old tree) (ids_of found)
+-- the table keeps the rows whose keys don't pass, and no other table is written
+pub record Retains (t : Layout) (tree : ℕ) (rows : TableRows) (old new : Trees) : Type 0 where
+  pub at : rows_in t (new tree) ≡ rows
   pub others : AllByRecursion (λ x. x.tree ≢ tree → new x.tree ≡ old x.tree) office_schema.tables
 
-module _ (table : Table) (at : ℕ) (place : slice_get office_schema.tables at ≡ Some table)
-    (idle : IsIdle office_schema table) (sql : List ℕ) (query : Query)
-    (is : Means sql (Delete at (record { lets = []; body = query }))) (params : Row) where
-  -- that are what the query shows
-  pub loses : (old new : State) (count : ℕ) (test : Row → Bool)
-      → ((found : List Row) → IsAnswer query (overlay old.now.trees []) params found
-      → IsPermutation (map (values_at (0 ∷ [])) (filter test (old.now.trees table.tree))) found)
-      → IsShaped shape.Table (old.now.trees table.tree) → IsReady old → Ran sql params old new count
-      → IsReady new × Loses test table.tree old.now.trees new.now.trees
-  loses old new count test shows was ready did =
+module _ (t : Layout) (table : Table) (at : ℕ) (place : slice_get office_schema.tables at ≡ Some table)
+    (low : (trees : Trees) → overlay trees [] t.tree ≡ trees table.tree) (idle : IsIdle office_schema table) (sql : List ℕ) (filters : List Term)
+    (means : Means sql (Delete at (record { lets = []; body = picked_where t filters (col 1 0 ∷ []) }))) (params : Row) (test : List Cell → Bool) where
+  pub removes_where : (old new : State) (count : ℕ) → IsShaped shape.Table (old.now.trees table.tree)
+      → Passes filters params (λ row. test (cells_at t.keys row)) (old.now.trees table.tree) → IsReady old → Ran sql params old new count
+      → IsReady new × Retains t table.tree (retain_keys (rows_in t (old.now.trees table.tree)) (λ key. not (test key))) old.now.trees new.now.trees
+  removes_where old new count was passes ready did =
       let db = old.now.trees in
       let rows = db table.tree in
-      let it = wrote sql _ is at table place params old new count (record { runs = λ w. w; does = λ db out d. d }) ready did in
+      let passed = λ (row : Row). test (cells_at t.keys row) in
+      let it = wrote sql _ means at table place params old new count (record { runs = λ w. w; does = λ db out d. d }) ready did in
       let asked = went_on it.rows in
       let cut = went_on asked.2 in
       let edit = edit_of db table (ids_of asked.0) Given 0 [] in
       let step = one_step office_schema Enforced db cut.0 edit (idle.on_delete (taken_by db edit)) cut.1 in
       let next : new.now.trees ≡ cut.0 = it.trees ∙ ap (λ (w : Written). w.trees) (same_value cut.2) in
       let left : new.now.trees table.tree ≡ without_all rows (ids_of asked.0) = ap (λ (x : Trees). x table.tree) next ∙ step.rows in
-      let others = subst (λ (x : Trees). AllByRecursion (λ (y : Table). y.tree ≢ table.tree → x y.tree ≡ db y.tree) office_schema.tables) (sym next) step.tables in (
+      let others = subst (λ (x : Trees). AllByRecursion (λ (y : Table). y.tree ≢ table.tree → x y.tree ≡ db y.tree) office_schema.tables) (sym next) step.tables in
+      let hits = subst (λ all. IsPermutation (map (values_at (0 ∷ [])) (filter passed all)) asked.0) (low db)
+      (where_picked t filters (col 1 0 ∷ []) params passed (values_at (0 ∷ [])) (λ row. refl) (overlay db []) asked.0 (subst (Passes filters params passed) (sym (low db)) passes) (asked.1.answer Null)) in (
         it.goes_on others (subst (IsShaped shape.Table) (sym left) (shaped_without (ids_of asked.0) rows was)),
-        record {
-          found = asked.0;
-          hits = shows asked.0 (asked.1.answer Null);
-          left = left;
-          others = others;
-        },
+        record { at = ap (rows_in t) left ∙ dropped_rows t rows test asked.0 hits was; others = others },
       )
 
--- the table has the key removed, and no other is written
-pub record RemovesIn (t : Layout) (tree : ℕ) (key : Row) (old new : Trees) : Type 0 where
-  pub at : rows_in t (new tree) ≡ remove (rows_in t (old tree)) (cells_at t.places key)
-  pub others : AllByRecursion (λ x. x.tree ≢ tree → new x.tree ≡ old x.tree) office_schema.tables
-
+-- by a key, which is removed
 module _ (t : Layout) (paired : ArePaired t.keys t.places) (table : Table) (at : ℕ) (place : slice_get office_schema.tables at ≡ Some table) (low : (trees : Trees) → overlay trees [] t.tree ≡ trees table.tree)
-    (idle : IsIdle office_schema table) (sql : List ℕ) (is : Means sql (Delete at (record { lets = []; body = found_by t (0 ∷ []) }))) (key : Row) (whole : are_sound t.places key ≡ true) where
-  pub remove_keyed : (old new : State) (count : ℕ) → IsShaped shape.Table (old.now.trees table.tree) → HaveKeys t (old.now.trees table.tree) → IsReady old → Ran sql key old new count → IsReady new × RemovesIn t table.tree key old.now.trees new.now.trees
+    (idle : IsIdle office_schema table) (sql : List ℕ) (means : Means sql (Delete at (record { lets = []; body = found_by t (0 ∷ []) }))) (key : Row) (whole : are_sound t.places key ≡ true) where
+  pub remove_keyed : (old new : State) (count : ℕ) → IsShaped shape.Table (old.now.trees table.tree) → HaveKeys t (old.now.trees table.tree) → IsReady old → Ran sql key old new count
+      → IsReady new × Retains t table.tree (remove (rows_in t (old.now.trees table.tree)) (cells_at t.places key)) old.now.trees new.now.trees
   remove_keyed old new count was keys ready did =
-      let db = old.now.trees in
-      let shows = λ (found : List Row) (answer : IsAnswer (found_by t (0 ∷ [])) (overlay db []) key found).
-      subst (λ all. IsPermutation (map (values_at (0 ∷ [])) (filter (has_key t key) all)) found) (low db)
-      (answers t paired (0 ∷ []) key (overlay db []) found answer) in
-      let it = loses table at place idle sql (found_by t (0 ∷ [])) is key old new count (has_key t key) shows was ready did in (
-        it.0,
-        record {
-          at = ap (rows_in t) it.1.left ∙ removed_rows t (db table.tree) key it.1.found it.1.hits was keys whole;
-          others = it.1.others;
-        },
-      )
+      let rows = old.now.trees table.tree in
+      let it = removes_where t table at place low idle sql (of_key t.keys t.places) means key (λ k. is_eq (cells_cmp k (cells_at t.places key))) old new count was
+      (key_passes t paired key whole rows keys) ready did in
+      (it.0, record { at = it.1.at ∙ removal (rows_in t rows) (cells_at t.places key); others = it.1.others })

@@ -1,16 +1,15 @@
 -- The statements that put and remove rows, and what they make of the tables.
 use Rattle.std.proofs.Common.{◌≡◌, ◌≢◌, true, ℕ, List, [], ◌∷◌, ◌++◌, map, filter, length, pos, refl, sym, ap, subst, ◌∙◌}
 use Rattle.std.specs.{FinMap.insert, FinMap.remove, Cmp.eq_by_cmp_equiv, List.AllByRecursion, List.IsDistinct, List.Sorted.IsPermutation, Ordering.eq_by_cmp}
-use Rattle.sqlite.specs.{declared.types.Value.TheVariants.Null, declared.types.Value.TheVariants.Int, Cast.cast_row, Edit.with_rowid, Rowids.TheVariants.Chosen, Order.Row, Program.overlay, Query.IsAnswer, Rows.Written, State.State, Term.col, Term.eval_all}
+use Rattle.sqlite.specs.{declared.types.Value.TheVariants.Null, declared.types.Value.TheVariants.Int, Cast.cast_row, Edit.with_rowid, Rowids.TheVariants.Chosen, Order.Row, Program.overlay, Rows.Written, State.State, Term.eval_all}
 use Rattle.sqlite.specs.Kind.TheVariants as kind
-use Rattle.sqlite_rules.specs.Lists.{Has}
 use Rattle.office_tables_shelf.specs.{Cells.Cell, Cells.TableRows, Cells.cells_cmp, Cells.null, Content.Content, Content.rows_but, Shelf.is_of, declared.rows.Table.Table}
 use Rattle.office_tables_shelf.proofs.CellLemmas.{cells_total}
-use Rattle.office_tables_statements.specs.{Calls.IsReady, Calls.IsTurned, Calls.Ran, Layout.has_key, Layout.values_at}
+use Rattle.office_tables_statements.specs.{Calls.IsReady, Calls.IsTurned, Calls.Ran, Layout.has_key}
 use Rattle.office_tables_statements.specs.Stored.{cells_at, content_now, rows_in}
-use Rattle.office_tables_statements.specs.Tables.{beside_rowid, id_given, source_at, rows_at, with_rows, layout_at, schema_at, place_at, renewed_at, put_in, remove_in, key_given, values_of, IsKeyOf, IsUpdateText, IsInsertText, IsRemoveText, takes, of_first, drop_in, picked_where, IsDropText}
+use Rattle.office_tables_statements.specs.Tables.{beside_rowid, id_given, source_at, rows_at, with_rows, layout_at, schema_at, place_at, renewed_at, put_in, remove_in, key_given, values_of, IsKeyOf, IsUpdateText, IsInsertText, IsRemoveText, takes, of_first, drop_in, IsDropText}
 use Rattle.office_tables_statements.specs.Schema.{office_schema}
-use Rattle.office_tables_statements.proofs.{Fits.Fits, Fits.fits as fits_taken, Fits.row_given, Casts.cast_one, Casts.cast_suited, ContentLemmas.put_at, ContentLemmas.put_apart, WriteLemmas.Added, WriteLemmas.adds, WriteLemmas.went_on, WriteLemmas.same_value, WriteLemmas.wrote, QueryLemmas.picked, QueryLemmas.where_picked, RemoveLemmas.dropped_rows, RemoveLemmas.loses, RemoveLemmas.remove_keyed, UpdateLemmas.Renewed, UpdateLemmas.renews, TableLemmas.each, TableLemmas.is_placed, TableLemmas.is_low}
+use Rattle.office_tables_statements.proofs.{Fits.Fits, Fits.fits as fits_taken, Fits.row_given, Casts.cast_one, Casts.cast_suited, ContentLemmas.put_at, ContentLemmas.put_apart, WriteLemmas.Added, WriteLemmas.adds, WriteLemmas.went_on, WriteLemmas.same_value, WriteLemmas.wrote, QueryLemmas.picked, RemoveLemmas.removes_where, RemoveLemmas.remove_keyed, UpdateLemmas.Renewed, UpdateLemmas.renews, TableLemmas.each, TableLemmas.is_placed, TableLemmas.is_low}
 use Rattle.office_tables_statements.proofs.TableLemmas.{is_uncounted, is_idle, facts, in_tree, same_tree, only_in, apart}
 use Rattle.office_tables_statements.proofs.StoredLists.{distinct, shaped, own_keys, seen}
 
@@ -109,25 +108,7 @@ pub drops : (t : Table) (sql : List ℕ) (means : IsDropText t sql) (id : ℕ) (
     (count : ℕ) → IsReady old → Ran sql (Int (pos id) ∷ []) old new count
     → IsTurned (drop_in (content_now old) t id) old new
 drops t sql means id old new count ready did =
-    let db = old.now.trees in
-    let rows = db (schema_at t).tree in
-    let params : Row = Int (pos id) ∷ [] in
-    let test = λ (r : Row). is_of id (cells_at (layout_at t).keys r) in
-    let whole = shaped t old.now ready.schema ready.sound ready.ordered in
     let keys = own_keys t old.now ready.schema ready.sound ready.ordered in
-    let low = seen t old.now ready.schema ready.sound ready.ordered in
-    let shows = λ (found : List Row)
-    (answer : IsAnswer (picked_where (layout_at t) (of_first t) (col 1 0 ∷ [])) (overlay db [])
-    params found).
-    subst (λ all. IsPermutation (map (values_at (0 ∷ [])) (filter test all)) found) low
-    (where_picked (layout_at t) (of_first t) (col 1 0 ∷ []) params test
-    (values_at (0 ∷ [])) (λ row. refl) (overlay db []) found
-    (λ row there. (facts t).first id row (keys row (subst (λ all. Has all row) low there)))
-    answer) in
-    let it = loses (schema_at t) (place_at t) (is_placed t) (is_idle t) sql
-    (picked_where (layout_at t) (of_first t) (col 1 0 ∷ []))
-    means params old new count test shows whole
-    ready did in
-    let left = dropped_rows (layout_at t) rows (is_of id) it.1.found it.1.hits whole in
-    turned old new t _ it.0 it.1.others (ap (rows_in (layout_at t)) it.1.left ∙ left
-    ∙ ap (rows_but id) (sym (in_tree t db)))
+    let it = removes_where (layout_at t) (schema_at t) (place_at t) (is_placed t) (λ trees. is_low t trees ∙ ap trees (same_tree t)) (is_idle t) sql (of_first t) means (Int (pos id) ∷ []) (is_of id)
+    old new count (shaped t old.now ready.schema ready.sound ready.ordered) (λ row there. (facts t).first id row (keys row there)) ready did in
+    turned old new t _ it.0 it.1.others (it.1.at ∙ ap (rows_but id) (sym (in_tree t old.now.trees)))

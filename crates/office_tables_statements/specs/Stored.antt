@@ -1,5 +1,5 @@
 -- The trees of a database as the content of a shelf.
-use Rattle.std.specs.Prelude.{ℕ, Bool, true, false, List, map, Option, None, Some}
+use Rattle.std.specs.Prelude.{◌≡◌, ◌≢◌, ◌<◌, ℕ, Bool, true, false, List, length, map, Option, None, Some, Result, Err, IfOk}
 use Rattle.std.specs.List.{list_all}
 use Rattle.sqlite.specs.declared.types.Value.{Value}
 use Rattle.sqlite.specs.declared.types.Value.TheVariants.{Null, Int, Real, Text, Blob}
@@ -8,6 +8,8 @@ use Rattle.sqlite.specs.State.{State}
 use Rattle.sqlite.specs.Tree.{Trees}
 use Rattle.office_tables_shelf.specs.Cells.{Cell, TableRows, rows_by, null, number, text, odd}
 use Rattle.office_tables_shelf.specs.Content.{Content}
+use Rattle.office_tables_shelf.specs.declared.shelf.ShelfFault.{ShelfFault}
+use Rattle.office_tables_shelf.specs.declared.shelf.ShelfFault.TheVariants.{Damaged}
 use Rattle.office_tables_statements.specs.Layout.{Layout, layout_of, values_at}
 use Rattle.office_tables_statements.specs.Schema as schema
 
@@ -31,6 +33,12 @@ cells values = map cell_of values
 -- the values of a row of SQL at some places, as cells
 abbrev pub cells_at : List ℕ → Row → List Cell
 cells_at places row = cells (values_at places row)
+
+-- what is read of the column at a place: the value whose cell it shows, which is within its limits; damage is told only of a column that shows no such cell
+pub record ReadsColumn {X : Type 0} (cell : X → Cell) (is_within : X → Type 0) (row : Row) (at : ℕ) (result : Result X ShelfFault) : Type 0 where
+  pub ok : IfOk result (λ x. cell_of (column row at) ≡ cell x)
+  pub within : IfOk result is_within
+  pub damaged : result ≡ Err Damaged → at < length row → (x : X) → is_within x → cell_of (column row at) ≢ cell x
 
 -- the stored rows of a table, by the cells of their keys, as it is laid out
 abbrev pub rows_in : Layout → List Row → TableRows

@@ -7,7 +7,7 @@ ghost use Rattle.signal_values.specs.Words.{AreWords};
 ghost use Rattle.cabinet_core.specs.Day.{IsDay};
 ghost use Rattle.cabinet_core.specs.Part.{IsPartCode};
 ghost use Rattle.office_tables_shelf.specs.Cells.{null, number, text};
-ghost use Rattle.office_tables_statements.specs.Stored.{cell_of, text_or_null};
+ghost use Rattle.office_tables_statements.specs.Stored.{ReadsColumn, cell_of, text_or_null};
 ghost use Rattle.signal_records.specs.declared.revision.TheConstants.{LAST_REVISION};
 
 use cabinet_core::{Day, PartCode};
@@ -34,9 +34,7 @@ fn value_at<T: FromSql>(row: &Row, at: usize) -> Result<T, ShelfFault>
 
 /// The number in a column, 0 to 2^32 - 1. `Damaged` means that it has none.
 pub fn number_at(row: &Row, at: usize) -> Result<u32, ShelfFault>
-    ensures ok { IfOk result (λ n. cell_of (column row.now at) ≡ number (pos n)) }
-    ensures damaged { result ≡ Err ShelfFault.Damaged → at < length row.now → (n : ℕ) →
-        n < 2 ^ 32 → cell_of (column row.now at) ≢ number (pos n) }
+    ensures { ReadsColumn (λ n. number (pos n)) (λ n. n < 2 ^ 32) row.now at result }
 {
     value_at(row, at)
 }
@@ -46,10 +44,7 @@ pub fn ranged_at<Of, const LOW: u32, const HIGH: u32>(
     row: &Row,
     at: usize,
 ) -> Result<Number<Of, LOW, HIGH>, ShelfFault>
-    ensures ok { IfOk result (λ n. cell_of (column row.now at) ≡ number (pos n)) }
-    ensures range { IfOk result (IsInRange LOW HIGH) }
-    ensures damaged { result ≡ Err ShelfFault.Damaged → at < length row.now → (n : ℕ) → LOW ≤ n →
-        n ≤ HIGH → cell_of (column row.now at) ≢ number (pos n) }
+    ensures { ReadsColumn (λ n. number (pos n)) (IsInRange LOW HIGH) row.now at result }
 {
     let n = number_at(row, at)?;
     match Number::new(n) {
@@ -60,10 +55,7 @@ pub fn ranged_at<Of, const LOW: u32, const HIGH: u32>(
 
 /// The revision in a column, 0 to `LAST_REVISION`. `Damaged` means that it has none.
 pub fn revision_at(row: &Row, at: usize) -> Result<Revision, ShelfFault>
-    ensures ok { IfOk result (λ n. cell_of (column row.now at) ≡ number (pos n)) }
-    ensures range { IfOk result (λ n. n ≤ LAST_REVISION) }
-    ensures damaged { result ≡ Err ShelfFault.Damaged → at < length row.now → (n : ℕ) →
-        n ≤ LAST_REVISION → cell_of (column row.now at) ≢ number (pos n) }
+    ensures { ReadsColumn (λ n. number (pos n)) (λ n. n ≤ LAST_REVISION) row.now at result }
 {
     let n = number_at(row, at)?;
     match Revision::new(n) {
@@ -105,10 +97,7 @@ pub fn words_at<const MAX: usize>(
     row: &Row,
     at: usize,
 ) -> Result<Words<MAX>, ShelfFault>
-    ensures ok { IfOk result (λ words. cell_of (column row.now at) ≡ text words) }
-    ensures words { IfOk result (AreWords MAX) }
-    ensures damaged { result ≡ Err ShelfFault.Damaged → at < length row.now → (words : List ℕ) →
-        AreWords MAX words → cell_of (column row.now at) ≢ text words }
+    ensures { ReadsColumn text (AreWords MAX) row.now at result }
 {
     match Words::new(alloc, text_at(row, at)?)? {
         Some(words) => Ok(words),
@@ -123,11 +112,7 @@ pub fn words_or_null_at<const MAX: usize>(
     row: &Row,
     at: usize,
 ) -> Result<Option<Words<MAX>>, ShelfFault>
-    ensures ok { IfOk result (λ words. cell_of (column row.now at) ≡ text_or_null words) }
-    ensures words { IfOk result (λ words. IfSome words (AreWords MAX)) }
-    ensures damaged { result ≡ Err ShelfFault.Damaged → at < length row.now →
-        (words : Option (List ℕ)) → IfSome words (AreWords MAX) →
-        cell_of (column row.now at) ≢ text_or_null words }
+    ensures { ReadsColumn text_or_null (λ words. IfSome words (AreWords MAX)) row.now at result }
 {
     let Some(found) = text_or_null_at(row, at)? else {
         return Ok(None);
@@ -140,10 +125,7 @@ pub fn words_or_null_at<const MAX: usize>(
 
 /// The day in a column, by its number, 0 to 84,005. `Damaged` means that it has none.
 pub fn day_at(row: &Row, at: usize) -> Result<Day, ShelfFault>
-    ensures ok { IfOk result (λ day. cell_of (column row.now at) ≡ number (pos day)) }
-    ensures day { IfOk result IsDay }
-    ensures damaged { result ≡ Err ShelfFault.Damaged → at < length row.now → (n : ℕ) → IsDay n →
-        cell_of (column row.now at) ≢ number (pos n) }
+    ensures { ReadsColumn (λ day. number (pos day)) IsDay row.now at result }
 {
     let n = number_at(row, at)?;
     match Day::new(n) {
@@ -155,10 +137,7 @@ pub fn day_at(row: &Row, at: usize) -> Result<Day, ShelfFault>
 /// The code of a part in a column. `Damaged` means that it has none, `NoMemory` that a growth was
 /// refused.
 pub fn code_at(alloc: Global, row: &Row, at: usize) -> Result<PartCode, ShelfFault>
-    ensures ok { IfOk result (λ code. cell_of (column row.now at) ≡ text code) }
-    ensures code { IfOk result IsPartCode }
-    ensures damaged { result ≡ Err ShelfFault.Damaged → at < length row.now → (code : List ℕ) →
-        IsPartCode code → cell_of (column row.now at) ≢ text code }
+    ensures { ReadsColumn text IsPartCode row.now at result }
 {
     match PartCode::new(alloc, text_at(row, at)?)? {
         Some(code) => Ok(code),

@@ -10,8 +10,8 @@ returns g c =
     record {
       same_reference = it.same_reference;
       turned = λ clean ready.
-          inserts _ _ _ c.in-Ok.ensures.taken _ c.texts.ensures.insert _ _ _ ready
-          (rw (c.as_slice.ensures.value, c.in-Ok.ensures.bound) at (it.ran clean));
+          inserts _ _ _ c.in_ok-values.ensures.taken _ c.texts.ensures.insert _ _ _ ready
+          (rw (c.as_slice.ensures.value, c.in_ok-values.ensures.bound) at (it.ran clean));
       honest = it.honest;
       stands = it.stands;
     }

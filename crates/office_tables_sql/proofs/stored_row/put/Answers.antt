@@ -15,8 +15,8 @@ returns-then-changed-gt0 g c =
     record {
       same_reference = it.same_reference;
       turned = λ clean ready.
-          one_put _ _ _ c.in-Ok.ensures.taken _ c.texts-texts.ensures.update _ _ _ some ready
-          (rw (c.as_slice.ensures.value, c.in-Ok.ensures.bound) at (it.ran clean));
+          one_put _ _ _ c.in_ok-values.ensures.taken _ c.texts-texts.ensures.update _ _ _ some ready
+          (rw (c.as_slice.ensures.value, c.in_ok-values.ensures.bound) at (it.ran clean));
       honest = it.honest;
       stands = it.stands;
     }
@@ -29,9 +29,9 @@ returns g c =
     record {
       same_reference = two.same_reference ∙ one.same_reference;
       turned = λ clean ready.
-          two_put _ _ _ c.in-Ok.ensures.taken _ _ c.texts-texts.ensures.update c.texts-texts.ensures.insert _ _ _ _ _ none ready
-          (rw (c.as_slice.ensures.value, c.in-Ok.ensures.bound) at (one.ran (omega (arith, clean, two.stands.crash.clean))))
-          (rw (c.as_slice-2.ensures.value, c.in-Ok.ensures.bound) at (two.ran clean));
+          two_put _ _ _ c.in_ok-values.ensures.taken _ _ c.texts-texts.ensures.update c.texts-texts.ensures.insert _ _ _ _ _ none ready
+          (rw (c.as_slice.ensures.value, c.in_ok-values.ensures.bound) at (one.ran (omega (arith, clean, two.stands.crash.clean))))
+          (rw (c.as_slice-2.ensures.value, c.in_ok-values.ensures.bound) at (two.ran clean));
       honest = λ clean. one.honest (omega (arith, clean, two.stands.crash.clean));
       stands = stands_then _ _ _ one.stands two.stands;
     }

@@ -1,7 +1,0 @@
-use Rattle.std.proofs.Common.{refl}
-use Rattle.sqlite_tied.specs.Compute.{everything}
-use Rattle.office_tables_sql.proofs.draft.ChangeStoredRow.texts.Goals as goal
-
-pub returns : goal.returns
-unfolding everything
-returns c = record { list = λ of. refl; find = refl; update = refl; insert = refl }
