@@ -1,5 +1,5 @@
 -- What a shelf in memory shows: its tables and its counts.
-use Rattle.std.specs.Prelude.{◌≡◌, ◌≢◌, ℕ, List, Option, Some, None, Result, Err, IfSome, refl}
+use Rattle.std.specs.Prelude.{◌≡◌, ℕ, List, Option, Some, None, IfSome, refl}
 use Rattle.std.specs.List.{AllByRecursion}
 use Rattle.std.specs.Coded.{Coded, code_by, coded×}
 use Rattle.signal_records.specs.Row.{key_of}
@@ -16,8 +16,6 @@ use Rattle.office_tables_shelf.specs.Shelf.{IsIntersectionWithin}
 use Rattle.office_tables_shelf.specs.declared.counts.WriteCounts.{WriteCounts}
 use Rattle.office_tables_maps.specs.declared.place.Place.{Place}
 use Rattle.office_tables_shelf.specs.declared.rows.IntersectionRow.{IntersectionRow}
-use Rattle.office_tables_shelf.specs.declared.shelf.ShelfFault.{ShelfFault}
-use Rattle.office_tables_shelf.specs.declared.shelf.ShelfFault.TheVariants.{Store, Damaged}
 
 -- the tables, and how often their rows were written
 pub record ShelfView : Type 0 where
@@ -79,13 +77,6 @@ AreLeftPlaced = AllByRecursion (λ e. IsLeftAt e.0.key e.1)
 abbrev pub change_at : Key → Option Row → Change
 change_at key (Some row) = Put row
 change_at key None = Remove key
-
--- ---- faults
-
--- the answer is neither that a store refused nor that a stored row is no record
-pub record IsFreeOfStore {A : Type 0} (result : Result A ShelfFault) : Type 0 where
-  pub not_refused : result ≢ Err Store
-  pub not_damaged : result ≢ Err Damaged
 
 -- ---- how the logic stores what is seen
 

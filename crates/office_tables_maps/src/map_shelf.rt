@@ -70,19 +70,7 @@ impl MapShelf {
 }
 
 impl Shelf for MapShelf {
-    ghost use Rattle.std.specs.Prelude.{◌≡◌, ℕ, OnOk, OnErr, IfOk, IfSome};
-    ghost use Rattle.std.specs.List.{AllByRecursion};
-    ghost use Rattle.cabinet_core.specs.Within.{IsInspectionWithin, IsOrderWithin, IsUsedLineWithin};
-    ghost use Rattle.signal_records.specs.Within.{IsRowWithin, current_limits};
-    ghost use Rattle.office_tables_shelf.specs.Change.{changed_by};
-    ghost use Rattle.office_tables_shelf.specs.Counts.{count_of, counts_after};
-    ghost use Rattle.office_tables_shelf.specs.Rows.{IsIntersectionRow};
-    ghost use Rattle.office_tables_shelf.specs.CabinetReads.{ListsInspections, ListsOrders, ListsUsed, ListsParts, IsPartWithin, HasAnyDamagedInspection, HasAnyDamagedOrder};
-    ghost use Rattle.office_tables_shelf.specs.Places.{FindsAt, IsOfPlace, place_of};
-    ghost use Rattle.office_tables_shelf.specs.Shelf.{ReadsIntersection, ListsIntersections, ListsTiming, CountsTiming, ListsDraft, IsIntersectionWithin};
-    ghost use Rattle.office_tables_shelf.specs.Overdue.{last_day_in, ReadsLast};
-    ghost use Rattle.office_tables_shelf.specs.OpenOrders.{orders_in, ReadsOpen};
-    ghost use Rattle.office_tables_maps.specs.MapShelf.{IsFreeOfStore};
+    ghost use Rattle.std.specs.Prelude.{◌≡◌};
 
     ghost content = { λ s. s.tables };
 
@@ -98,50 +86,26 @@ impl Shelf for MapShelf {
         &mut self,
         _alloc: Global,
         id: InterId,
-    ) -> Result<Option<IntersectionRow>, ShelfFault>
-        ensures row { IfOk result (λ row. ReadsIntersection self.old.tables id row) }
-        ensures within { IfOk result (λ row. IfSome row IsIntersectionRow) }
-        ensures unchanged { self.new ≡ self.old }
-        ensures sound { IsFreeOfStore result }
-    {
+    ) -> Result<Option<IntersectionRow>, ShelfFault> {
         Ok(find(&self.now.intersection, &id)?)
     }
 
     fn intersections(
         &mut self,
         alloc: Global,
-    ) -> Result<Vec<(InterId, IntersectionRow)>, ShelfFault>
-        ensures rows { IfOk result (λ rows. ListsIntersections self.old.tables rows.items) }
-        ensures within { IfOk result (λ rows. AllByRecursion IsIntersectionWithin rows.items) }
-        ensures unchanged { self.new ≡ self.old }
-        ensures sound { IsFreeOfStore result }
-    {
+    ) -> Result<Vec<(InterId, IntersectionRow)>, ShelfFault> {
         Ok(all_intersections(alloc, &self.now.intersection)?)
     }
 
-    fn timing_rows(&mut self, alloc: Global, id: InterId) -> Result<Vec<Row>, ShelfFault>
-        ensures rows { IfOk result (λ rows. ListsTiming self.old.tables id rows.items) }
-        ensures within { IfOk result (λ rows.
-            AllByRecursion (IsRowWithin current_limits) rows.items) }
-        ensures unchanged { self.new ≡ self.old }
-        ensures sound { IsFreeOfStore result }
-    {
+    fn timing_rows(&mut self, alloc: Global, id: InterId) -> Result<Vec<Row>, ShelfFault> {
         Ok(timing_of(alloc, &self.now.timing, id)?)
     }
 
-    fn committed_count(&mut self, _alloc: Global, id: InterId) -> Result<usize, ShelfFault>
-        ensures count { IfOk result (λ count. CountsTiming self.old.tables id count) }
-        ensures unchanged { self.new ≡ self.old }
-        ensures sound { IsFreeOfStore result }
-    {
+    fn committed_count(&mut self, _alloc: Global, id: InterId) -> Result<usize, ShelfFault> {
         Ok(count_of(&self.now.timing, id))
     }
 
-    fn draft_rows(&mut self, alloc: Global, id: InterId) -> Result<Vec<Change>, ShelfFault>
-        ensures rows { IfOk result (λ rows. ListsDraft self.old.tables id rows.items) }
-        ensures unchanged { self.new ≡ self.old }
-        ensures sound { IsFreeOfStore result }
-    {
+    fn draft_rows(&mut self, alloc: Global, id: InterId) -> Result<Vec<Change>, ShelfFault> {
         Ok(draft_of(alloc, &self.now.draft, id)?)
     }
 
@@ -149,77 +113,35 @@ impl Shelf for MapShelf {
         &mut self,
         _alloc: Global,
         key: &RegisterKey<'_>,
-    ) -> Result<Option<RegisterRecord>, ShelfFault>
-        ensures row { FindsAt self.old.tables (place_of key.now) result }
-        ensures within { IfOk result (λ found. IfSome found (IsOfPlace (place_of key.now))) }
-        ensures unchanged { self.new ≡ self.old }
-        ensures sound { IsFreeOfStore result }
-    {
+    ) -> Result<Option<RegisterRecord>, ShelfFault> {
         Ok(self.now.record_at(key)?)
     }
 
-    fn inspections(&mut self, alloc: Global, id: InterId) -> Result<Vec<Inspection>, ShelfFault>
-        ensures rows { IfOk result (λ found. ListsInspections self.old.tables id found.items) }
-        ensures within { IfOk result (λ found. AllByRecursion IsInspectionWithin found.items) }
-        ensures unchanged { self.new ≡ self.old }
-        ensures sound { IsFreeOfStore result }
-    {
+    fn inspections(&mut self, alloc: Global, id: InterId) -> Result<Vec<Inspection>, ShelfFault> {
         Ok(inspections_of(alloc, &self.now.inspection, id)?)
     }
 
-    fn last_inspections(&mut self, alloc: Global) -> Result<BTreeMap<InterId, Day>, ShelfFault>
-        ensures days { IfOk result (λ days.
-            (id : ℕ) → ReadsLast self.old.tables id (last_day_in days.entries id)) }
-        ensures whole { IfOk result (λ _. ¬ HasAnyDamagedInspection self.old.tables) }
-        ensures unchanged { self.new ≡ self.old }
-        ensures sound { IsFreeOfStore result }
-    {
+    fn last_inspections(&mut self, alloc: Global) -> Result<BTreeMap<InterId, Day>, ShelfFault> {
         Ok(last_days(alloc, &self.now.inspection)?)
     }
 
-    fn orders(&mut self, alloc: Global, id: InterId) -> Result<Vec<Order>, ShelfFault>
-        ensures rows { IfOk result (λ found. ListsOrders self.old.tables id found.items) }
-        ensures within { IfOk result (λ found. AllByRecursion IsOrderWithin found.items) }
-        ensures unchanged { self.new ≡ self.old }
-        ensures sound { IsFreeOfStore result }
-    {
+    fn orders(&mut self, alloc: Global, id: InterId) -> Result<Vec<Order>, ShelfFault> {
         Ok(orders_of(alloc, &self.now.work_order, id)?)
     }
 
-    fn open_orders(&mut self, alloc: Global) -> Result<BTreeMap<InterId, Vec<Order>>, ShelfFault>
-        ensures orders { IfOk result (λ orders.
-            (id : ℕ) → ReadsOpen self.old.tables id (orders_in orders.entries id)) }
-        ensures whole { IfOk result (λ _. ¬ HasAnyDamagedOrder self.old.tables) }
-        ensures unchanged { self.new ≡ self.old }
-        ensures sound { IsFreeOfStore result }
-    {
+    fn open_orders(&mut self, alloc: Global) -> Result<BTreeMap<InterId, Vec<Order>>, ShelfFault> {
         Ok(open_orders_of(alloc, &self.now.work_order)?)
     }
 
-    fn used_lines(&mut self, alloc: Global, id: InterId) -> Result<Vec<UsedLine>, ShelfFault>
-        ensures rows { IfOk result (λ found. ListsUsed self.old.tables id found.items) }
-        ensures within { IfOk result (λ found. AllByRecursion IsUsedLineWithin found.items) }
-        ensures unchanged { self.new ≡ self.old }
-        ensures sound { IsFreeOfStore result }
-    {
+    fn used_lines(&mut self, alloc: Global, id: InterId) -> Result<Vec<UsedLine>, ShelfFault> {
         Ok(lines_of(alloc, &self.now.used_part, id)?)
     }
 
-    fn parts(&mut self, alloc: Global) -> Result<Vec<(PartCode, Hand)>, ShelfFault>
-        ensures rows { IfOk result (λ found. ListsParts self.old.tables found.items) }
-        ensures within { IfOk result (λ found. AllByRecursion IsPartWithin found.items) }
-        ensures unchanged { self.new ≡ self.old }
-        ensures sound { IsFreeOfStore result }
-    {
+    fn parts(&mut self, alloc: Global) -> Result<Vec<(PartCode, Hand)>, ShelfFault> {
         Ok(all_parts(alloc, &self.now.part)?)
     }
 
-    fn apply(&mut self, _alloc: Global, changes: &[RowChange]) -> Result<(), ShelfFault>
-        ensures tables { OnOk result (self.new.tables ≡ changed_by self.old.tables changes.now) }
-        ensures counts { OnOk result (self.new.counts ≡ counts_after self.old.counts changes.now) }
-        ensures unchanged { OnErr result (self.new ≡ self.old) }
-        ensures sound { IsFreeOfStore result }
-    {
+    fn apply(&mut self, _alloc: Global, changes: &[RowChange]) -> Result<(), ShelfFault> {
         let next = self.same()?.make_changes(changes)?;
         let old = mem::replace(&mut self.now, next);
         self.spare = old.make_changes(changes).ok();
