@@ -3,12 +3,10 @@ ghost use Rattle.std.specs.Prelude.{◌≡◌, IfOk};
 ghost use Rattle.office_tables_shelf.specs.Content.{no_content};
 ghost use Rattle.office_tables_shelf.specs.Counts.{no_writes};
 
-use crate::kept::find;
-use crate::map_cabinet::{all_parts, inspections_of, lines_of, orders_of};
-use crate::map_open_orders::open_orders_of;
-use crate::map_overdue::last_days;
-use crate::map_rows::{all_intersections, count_of, draft_of, timing_of};
+use crate::kept::{find, list_all};
 use crate::maps::Maps;
+use crate::under::{count_under, list_under};
+use crate::walks::{last_days, open_orders_of};
 use cabinet_core::{Day, Hand, Inspection, Order, PartCode, UsedLine};
 use office_tables_shelf::counts::WriteCounts;
 use office_tables_shelf::register::{RegisterKey, RegisterRecord};
@@ -58,13 +56,13 @@ impl MapShelf {
     }
 
     /// A copy of the tables `now`: the spare, or a new one where there is no spare.
-    fn same(&mut self) -> Result<Maps, NoMemory>
+    fn same(&mut self, alloc: Global) -> Result<Maps, NoMemory>
         ensures same { IfOk result (λ same. same ≡ self.old.tables) }
         ensures unchanged { self.new ≡ self.old }
     {
         match self.spare.take() {
             Some(spare) => Ok(spare),
-            None => self.now.copy_tables(),
+            None => self.now.copy_tables(alloc),
         }
     }
 }
@@ -94,19 +92,19 @@ impl Shelf for MapShelf {
         &mut self,
         alloc: Global,
     ) -> Result<Vec<(InterId, IntersectionRow)>, ShelfFault> {
-        Ok(all_intersections(alloc, &self.now.intersection)?)
+        Ok(list_all(alloc, &self.now.intersection)?)
     }
 
     fn timing_rows(&mut self, alloc: Global, id: InterId) -> Result<Vec<Row>, ShelfFault> {
-        Ok(timing_of(alloc, &self.now.timing, id)?)
+        Ok(list_under(alloc, &self.now.timing, id)?)
     }
 
     fn committed_count(&mut self, _alloc: Global, id: InterId) -> Result<usize, ShelfFault> {
-        Ok(count_of(&self.now.timing, id))
+        Ok(count_under(&self.now.timing, id))
     }
 
     fn draft_rows(&mut self, alloc: Global, id: InterId) -> Result<Vec<Change>, ShelfFault> {
-        Ok(draft_of(alloc, &self.now.draft, id)?)
+        Ok(list_under(alloc, &self.now.draft, id)?)
     }
 
     fn record_at(
@@ -118,7 +116,7 @@ impl Shelf for MapShelf {
     }
 
     fn inspections(&mut self, alloc: Global, id: InterId) -> Result<Vec<Inspection>, ShelfFault> {
-        Ok(inspections_of(alloc, &self.now.inspection, id)?)
+        Ok(list_under(alloc, &self.now.inspection, id)?)
     }
 
     fn last_inspections(&mut self, alloc: Global) -> Result<BTreeMap<InterId, Day>, ShelfFault> {
@@ -126,7 +124,7 @@ impl Shelf for MapShelf {
     }
 
     fn orders(&mut self, alloc: Global, id: InterId) -> Result<Vec<Order>, ShelfFault> {
-        Ok(orders_of(alloc, &self.now.work_order, id)?)
+        Ok(list_under(alloc, &self.now.work_order, id)?)
     }
 
     fn open_orders(&mut self, alloc: Global) -> Result<BTreeMap<InterId, Vec<Order>>, ShelfFault> {
@@ -134,15 +132,15 @@ impl Shelf for MapShelf {
     }
 
     fn used_lines(&mut self, alloc: Global, id: InterId) -> Result<Vec<UsedLine>, ShelfFault> {
-        Ok(lines_of(alloc, &self.now.used_part, id)?)
+        Ok(list_under(alloc, &self.now.used_part, id)?)
     }
 
     fn parts(&mut self, alloc: Global) -> Result<Vec<(PartCode, Hand)>, ShelfFault> {
-        Ok(all_parts(alloc, &self.now.part)?)
+        Ok(list_all(alloc, &self.now.part)?)
     }
 
-    fn apply(&mut self, _alloc: Global, changes: &[RowChange]) -> Result<(), ShelfFault> {
-        let next = self.same()?.make_changes(changes)?;
+    fn apply(&mut self, alloc: Global, changes: &[RowChange]) -> Result<(), ShelfFault> {
+        let next = self.same(alloc)?.make_changes(changes)?;
         let old = mem::replace(&mut self.now, next);
         self.spare = old.make_changes(changes).ok();
         self.counts.count_all(changes);
