@@ -2,6 +2,7 @@
 
 ghost use Rattle.std.specs.Prelude.{◌≡◌, ℕ, IfOk};
 ghost use Rattle.std.specs.declared.ops.Bound.TheVariants.{Included};
+ghost use Rattle.office_tables_maps.specs.Keys.{Keys, line_keys, plan_keys, record_keys};
 
 use cabinet_core::PartCode;
 use signal_records::{InterId, Key, LineNo, NoMemory, PatternNo, PhaseNo, RecordNo};
@@ -38,25 +39,18 @@ impl TreePlace for (PartCode, RecordNo) {
     }
 }
 
-/// A key of which there is a first and a last.
+/// A key that rows have beside their intersection.
 pub(crate) trait Ends: Sized {
-    /// The first of the keys.
-    ghost first: { Self };
-    /// The last of the keys.
-    ghost last: { Self };
+    /// The cells of such keys, their limits, and the first and the last of them.
+    ghost keys: { Keys Self };
 
     /// The first key and the last.
     fn ends() -> (Self, Self)
-        ensures { result ≡ (first, last) };
+        ensures { result ≡ (keys.first, keys.last) };
 }
 
-/// The keys of a plan, from phase 1 to pattern 48.
 impl Ends for Key {
-    ghost use Rattle.signal_records.specs.declared.key.Key.TheVariants.{Phase, Pattern};
-
-    ghost first = { Phase 1 };
-
-    ghost last = { Pattern 48 };
+    ghost keys = { plan_keys };
 
     fn ends() -> (Key, Key) {
         let first = PhaseNo::new(1).unwrap();
@@ -66,33 +60,19 @@ impl Ends for Key {
 }
 
 impl Ends for RecordNo {
-    ghost first = { 1 };
-
-    ghost last = { 999_999 };
+    ghost keys = { record_keys };
 
     fn ends() -> (RecordNo, RecordNo) {
         (RecordNo::new(1).unwrap(), RecordNo::new(999_999).unwrap())
     }
 }
 
-impl Ends for LineNo {
-    ghost first = { 1 };
+impl Ends for (RecordNo, LineNo) {
+    ghost keys = { line_keys };
 
-    ghost last = { 99 };
-
-    fn ends() -> (LineNo, LineNo) {
-        (LineNo::new(1).unwrap(), LineNo::new(99).unwrap())
-    }
-}
-
-impl<A: Ends, B: Ends> Ends for (A, B) {
-    ghost first = { (A.first, B.first) };
-
-    ghost last = { (A.last, B.last) };
-
-    fn ends() -> ((A, B), (A, B)) {
-        let (first, last) = A::ends();
-        let (low, high) = B::ends();
+    fn ends() -> ((RecordNo, LineNo), (RecordNo, LineNo)) {
+        let (first, last) = RecordNo::ends();
+        let (low, high) = (LineNo::new(1).unwrap(), LineNo::new(99).unwrap());
         ((first, low), (last, high))
     }
 }
@@ -118,9 +98,9 @@ pub(crate) trait OfIntersection: Sized {
 impl<K: Ends> OfIntersection for (InterId, K) {
     ghost inter = { λ place. place.0 };
 
-    ghost first = { λ id. (id, K.first) };
+    ghost first = { λ id. (id, K.keys.first) };
 
-    ghost last = { λ id. (id, K.last) };
+    ghost last = { λ id. (id, K.keys.last) };
 
     fn inter(&self) -> InterId {
         self.0
