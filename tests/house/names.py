@@ -40,14 +40,12 @@ MEANT = {
     "a result is the wanted one, unless memory ran out: each crate has faults of its own": "Gives",
     "the number, name and status of a refusal, of each layer": "line_of status_of",
     "a value of a kind at a place, a field or a key, where each reader has it":
-        "change_at day_at flag_at row_at list_of number_of phase_in phases_in rows_in body_of",
+        "day_at flag_at row_at list_of number_of phase_in phases_in rows_in body_of",
     "what something is, as columns or texts, of each table, file or page":
         "columns_of key_of ped_columns place_of row_of row_shown text "
         "timing_columns view_code width_of",
     "what the desk does with a record, of the register and of a plan":
         "Makes WantsMemory row_change_of row_changes_of",
-    "a record under its key, in the register and in the maps":
-        "IsDeliveryAt IsInspectionAt IsOrderAt",
 }
 
 

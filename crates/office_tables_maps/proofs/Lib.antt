@@ -1,5 +1,3 @@
 mod TreeRows
-mod PlaceLemmas
-mod RangeLemmas
-mod RecordTrees
+mod UnderLemmas
 mod WalkLemmas

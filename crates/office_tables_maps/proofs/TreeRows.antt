@@ -1,13 +1,14 @@
--- Trees of records: how the numbers of their keys compare, the rows in their order, those that pass a test, and each under its own key.
-use Rattle.std.proofs.Common.{◌≡◌, inl, inr, Bool, List, [], ◌∷◌, map, filter, cond, Option, Some, None, IfSome, Ordering, T, refl, sym, ap, subst, subst₂, ◌∙◌}
-use Rattle.std.proofs.{lemmas.Bool.cases_Bool, lemmas.Map.Entries.entries_from_clone}
-use Rattle.std.specs.{BTreeMap.insert_entry, BTreeMap.is_at, FinMap.entries, FinMap.get, Option.option_map, FinMap.retain_keys, FinMap.get-retain_keys, FinMap.same_map, FinMap.Entries.is_sorted, FinMap.Entries.below_all, FinMap.Entries.find-where_key, List.AllByRecursion, List.AllZip, List.Sorted.IsStrictlySortedBy, Map.keys_of, Map.lookup, Ordering.is_eq, Ordering.is_lt, Ordering.match_ordering, declared.cmp.Ordering.TheVariants.Less, declared.cmp.Ordering.TheVariants.Equal}
+-- Trees of records: the rows in their order, those that pass a test, and each record under its own place.
+use Rattle.std.proofs.Common.{◌≡◌, inl, inr, Bool, List, [], ◌∷◌, ◌++◌, true, false, map, filter, cond, Option, Some, None, IfSome, Ordering, T, refl, sym, ap, subst, subst₂, ◌∙◌, append_assoc}
+use Rattle.std.proofs.{lemmas.Bool.cases_Bool}
+use Rattle.std.specs.{BTreeMap.insert_entry, BTreeMap.is_at, FinMap.entries, FinMap.get, Option.option_map, FinMap.retain_keys, FinMap.get-retain_keys, FinMap.same_map, FinMap.Entries.is_sorted, FinMap.Entries.below_all, FinMap.Entries.find-where_key, List.AllByRecursion, List.Sorted.IsStrictlySortedBy, Map.keys_of, Map.lookup, Map.remove_entry, Cmp.IsTotalOrder, Ordering.ordering_reverse, Ordering.is_eq, Ordering.is_lt, Ordering.match_ordering, declared.cmp.Ordering.TheVariants.Less, declared.cmp.Ordering.TheVariants.Equal}
 use Rattle.std.specs.declared.cmp.Ordering.TheVariants.{Greater}
 use Rattle.std.specs.FinMap as finite
 use Rattle.office_tables_shelf.specs.Cells.{Cell, rows_by, tree_rows, cells_cmp}
 use Rattle.office_tables_shelf.proofs.CellLemmas.{cells_total, cells_exact, find_entry, get_by, tied}
 use Rattle.office_tables_shelf.proofs.TreeLemmas.{entry_at, get_tree}
 use Rattle.office_tables_shelf.proofs.ListLemmas.{both, cells_of, entry, entries_filter, entries_in_order}
+use Rattle.office_tables_maps.specs.Stored.{ArePlaced, Stored}
 
 -- ---- the entries of a tree, in its order
 
@@ -28,10 +29,6 @@ module _ {K X : Type 0} (R : K → K → Ordering) (key : K → List Cell) (colu
   -- what the map has under the cells of a key is what the tree has there
   pub stored_at : (es : List (K × X)) (k : K) (found : Option X) → entry_at R key columns es k ≡ found → get (tree_rows key columns es) (key k) ≡ option_map columns found
   stored_at es k found here = get_tree R key columns (λ a b. ap is_eq (order a b)) es k ∙ ap (option_map columns) here
-
--- clones that are equal to their sources are the sources
-pub same_clones : {K X : Type 0} (es copies : List (K × X)) → AllZip (λ e f. (f.0 ≡ e.0) × (f.1 ≡ e.1)) es copies → copies ≡ es
-same_clones = entries_from_clone (λ x y. y ≡ x) (λ x y. y ≡ x) (λ x y h. h) (λ x y h. h)
 
 -- ---- records under their own keys
 
@@ -63,6 +60,60 @@ module _ {K X : Type 0} (R : K → K → Ordering) (exact : (a b : K) → R a b 
   pub standing_at : (es : List (K × X)) (k : K) (found : Option X) → AreStanding es → lookup (is_at (R k)) es ≡ found → IfSome found (Stands k)
   standing_at es k None h here = tt
   standing_at es k (Some x) h here = standing_found es k x h here
+
+module _ {K X : Type 0} (Stands : K → X → Type 0) where
+  abbrev All : List (K × X) → Type 0
+  All = AllByRecursion (λ e. Stands e.0 e.1)
+
+  pub standing_removed : (test : K → Bool) (es : List (K × X)) → All es → All (remove_entry test es)
+  standing_removed test [] h = tt
+  standing_removed test (e ∷ es) h =
+      elim (test e.0) as (λ b. All (cond b es (e ∷ remove_entry test es))) [
+        | true ↦ h.1
+        | false ↦ (h.0, standing_removed test es h.1)
+      ]
+
+  pub standing_kept : (test : K × X → Bool) (es : List (K × X)) → All es → All (filter test es)
+  standing_kept test [] h = tt
+  standing_kept test (e ∷ es) h =
+      elim (test e) as (λ b. All (cond b (e ∷ filter test es) (filter test es))) [
+        | true ↦ (h.0, standing_kept test es h.1)
+        | false ↦ standing_kept test es h.1
+      ]
+
+-- each place and each record are within their limits
+pub within_each : {K Of X : Type 0} (kind : Stored K Of X) (es : List (K × X)) → ArePlaced kind es
+    → AllByRecursion (λ e. kind.is_place e.0 × kind.is_within e.1) es
+within_each kind [] h = tt
+within_each kind (e ∷ es) h = (h.0.1, within_each kind es h.1)
+
+-- ---- an entry that is put after all others
+
+module _ {K X : Type 0} (R : K → K → Ordering) (total : IsTotalOrder R) where
+  below_next : (j : K) (es : List (K × X)) (k : K) (x : X) (rest : List (K × X))
+      → AllByRecursion (λ i. R j i ≡ Less) (keys_of (es ++ (k, x) ∷ rest)) → R j k ≡ Less
+  below_next j [] k x rest h = h.0
+  below_next j (e ∷ es) k x rest h = below_next j es k x rest h.1
+
+  pub put_last : (es : List (K × X)) (k : K) (x : X) (rest : List (K × X))
+      → IsStrictlySortedBy R (keys_of (es ++ (k, x) ∷ rest))
+      → insert_entry R es k x ≡ es ++ (k, x) ∷ []
+  unfolding IsStrictlySortedBy
+  put_last [] k x rest h = refl
+  put_last (e ∷ es) k x rest h =
+      let after : R k e.0 ≡ Greater =
+      total.antisymm k e.0 ∙ ap ordering_reverse (below_next e.0 es k x rest h.0) in
+      rw after (ap (λ fs. e ∷ fs) (put_last es k x rest h.1))
+
+  -- a copy that is put after those of the entries before it
+  pub put_next : (copies rest all : List (K × X)) (k at : K) (x copy : X) → at ≡ k → copy ≡ x
+      → IsStrictlySortedBy R (keys_of all) → copies ++ (k, x) ∷ rest ≡ all
+      → insert_entry R copies at copy ++ rest ≡ all
+  put_next copies rest all k at x copy same_place same sorted so_far =
+      (λ i. insert_entry R copies (same_place i) (same i) ++ rest)
+      ∙ ap (λ fs. fs ++ rest) (put_last copies k x rest
+      (subst (λ fs. IsStrictlySortedBy R (keys_of fs)) (sym so_far) sorted))
+      ∙ append_assoc copies ((k, x) ∷ []) rest ∙ so_far
 
 -- ---- the rows that pass a test
 

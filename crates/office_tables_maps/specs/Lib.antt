@@ -1,5 +1,5 @@
+pub mod Keys
 pub mod MapShelf
-pub mod MapCabinet
-pub mod Places
 pub mod Placed
-pub mod PlaceFacts
+pub mod Records
+pub mod Stored

@@ -1,38 +1,29 @@
 //! The eight tables in memory, as maps of records.
 ghost use Rattle.std.specs.Prelude.{◌≡◌, OnOk, IfOk, IfSome};
 
-use crate::kept::{find, put};
-use crate::map_cabinet::{copied_parts, hand_of, put_part};
-use crate::map_rows::{
-    copied_drafts, copied_intersections, drop_drafts, put_draft, remove_draft, remove_timing,
-};
-use crate::place::{DeliveryPlace, LinePlace, Place, RecordPlace};
+use crate::kept::{copied_rows, find, put, remove};
+use crate::under::drop_under;
 use cabinet_core::{Delivery, Hand, Inspection, Order, PartCode, UsedLine};
 use office_tables_shelf::register::{RegisterKey, RegisterRecord};
 use office_tables_shelf::rows::{IntersectionRow, RowChange};
-use signal_records::{InterId, NoMemory, Row};
+use signal_records::{Change, InterId, Key, LineNo, NoMemory, RecordNo, Row};
 use std::alloc::Global;
 use std::collections::BTreeMap;
 use std::marker::Model;
 
-/// The rows of the tables. Each is a record within its limits, as it was when it was put.
+/// The rows of the tables. Each is a record within its limits, as it was when it was put, and
+/// stands under its own place.
 #[derive(Drop)]
 pub struct Maps {
     pub(crate) intersection: BTreeMap<InterId, IntersectionRow>,
-    /// Each row stands under its own key.
-    pub(crate) timing: BTreeMap<Place, Row>,
-    /// What each draft row leaves at its key: a row, or none where it is a removal.
-    pub(crate) draft: BTreeMap<Place, Option<Row>>,
-    /// Each inspection stands under its intersection and its own number.
-    pub(crate) inspection: BTreeMap<RecordPlace, Inspection>,
-    /// Each order stands under its intersection and its own number.
-    pub(crate) work_order: BTreeMap<RecordPlace, Order>,
-    /// Each used part stands under its intersection, the number of its order and its own line.
-    pub(crate) used_part: BTreeMap<LinePlace, UsedLine>,
+    pub(crate) timing: BTreeMap<(InterId, Key), Row>,
+    pub(crate) draft: BTreeMap<(InterId, Key), Change>,
+    pub(crate) inspection: BTreeMap<(InterId, RecordNo), Inspection>,
+    pub(crate) work_order: BTreeMap<(InterId, RecordNo), Order>,
+    pub(crate) used_part: BTreeMap<(InterId, (RecordNo, LineNo)), UsedLine>,
     /// How many of each part are on hand.
     pub(crate) part: BTreeMap<PartCode, Hand>,
-    /// Each delivery stands under its part and its own number.
-    pub(crate) delivery: BTreeMap<DeliveryPlace, Delivery>,
+    pub(crate) delivery: BTreeMap<(PartCode, RecordNo), Delivery>,
 }
 
 impl Model for Maps {
@@ -70,17 +61,17 @@ impl Maps {
     }
 
     /// A copy of the tables.
-    pub(crate) fn copy_tables(&self) -> Result<Maps, NoMemory>
+    pub(crate) fn copy_tables(&self, alloc: Global) -> Result<Maps, NoMemory>
         ensures { IfOk result (λ copy. copy ≡ self.now) }
     {
-        let intersection = copied_intersections(&self.intersection)?;
-        let timing = self.timing.clone()?;
-        let draft = copied_drafts(&self.draft)?;
-        let inspection = self.inspection.clone()?;
-        let work_order = self.work_order.clone()?;
-        let used_part = self.used_part.clone()?;
-        let part = copied_parts(&self.part)?;
-        let delivery = self.delivery.clone()?;
+        let intersection = copied_rows(alloc, &self.intersection)?;
+        let timing = copied_rows(alloc, &self.timing)?;
+        let draft = copied_rows(alloc, &self.draft)?;
+        let inspection = copied_rows(alloc, &self.inspection)?;
+        let work_order = copied_rows(alloc, &self.work_order)?;
+        let used_part = copied_rows(alloc, &self.used_part)?;
+        let part = copied_rows(alloc, &self.part)?;
+        let delivery = copied_rows(alloc, &self.delivery)?;
         Ok(Maps {
             intersection,
             timing,
@@ -98,21 +89,21 @@ impl Maps {
         ensures { OnOk result (self.new ≡ changed self.old change.now) }
     {
         match change {
-            RowChange::AddIntersection(id, row) => put(&mut self.intersection, *id, row.clone()?)?,
-            RowChange::PutIntersection(id, row) => put(&mut self.intersection, *id, row.clone()?)?,
-            RowChange::AddTiming(id, row) => put(&mut self.timing, *id, row.clone()?)?,
-            RowChange::PutTiming(id, row) => put(&mut self.timing, *id, row.clone()?)?,
-            RowChange::RemoveTiming(id, key) => remove_timing(&mut self.timing, *id, *key),
-            RowChange::AddDraft(id, change) => put_draft(&mut self.draft, *id, change)?,
-            RowChange::PutDraft(id, change) => put_draft(&mut self.draft, *id, change)?,
-            RowChange::RemoveDraft(id, key) => remove_draft(&mut self.draft, *id, *key),
-            RowChange::DropDraft(id, _) => drop_drafts(&mut self.draft, *id),
-            RowChange::AddInspection(id, found) => put(&mut self.inspection, *id, found.clone()?)?,
-            RowChange::AddOrder(id, order) => put(&mut self.work_order, *id, order.clone()?)?,
-            RowChange::PutOrder(id, order) => put(&mut self.work_order, *id, order.clone()?)?,
-            RowChange::AddLine(id, used) => put(&mut self.used_part, *id, used.clone()?)?,
-            RowChange::PutPart(part, hand) => put_part(&mut self.part, part.clone()?, *hand)?,
-            RowChange::AddDelivery(delivery) => put(&mut self.delivery, (), delivery.clone()?)?,
+            RowChange::AddIntersection(id, row) => put(&mut self.intersection, *id, row)?,
+            RowChange::PutIntersection(id, row) => put(&mut self.intersection, *id, row)?,
+            RowChange::AddTiming(id, row) => put(&mut self.timing, *id, row)?,
+            RowChange::PutTiming(id, row) => put(&mut self.timing, *id, row)?,
+            RowChange::RemoveTiming(id, key) => remove(&mut self.timing, &(*id, *key)),
+            RowChange::AddDraft(id, change) => put(&mut self.draft, *id, change)?,
+            RowChange::PutDraft(id, change) => put(&mut self.draft, *id, change)?,
+            RowChange::RemoveDraft(id, key) => remove(&mut self.draft, &(*id, *key)),
+            RowChange::DropDraft(id, _) => drop_under(&mut self.draft, *id),
+            RowChange::AddInspection(id, found) => put(&mut self.inspection, *id, found)?,
+            RowChange::AddOrder(id, order) => put(&mut self.work_order, *id, order)?,
+            RowChange::PutOrder(id, order) => put(&mut self.work_order, *id, order)?,
+            RowChange::AddLine(id, used) => put(&mut self.used_part, *id, used)?,
+            RowChange::PutPart(part, hand) => put(&mut self.part, part.clone()?, hand)?,
+            RowChange::AddDelivery(delivery) => put(&mut self.delivery, (), delivery)?,
         }
         Ok(())
     }
@@ -134,27 +125,23 @@ impl Maps {
     {
         match key {
             RegisterKey::Inspection(inter, number) => {
-                let (inter, number) = (*inter, *number);
-                let found = find(&self.inspection, &RecordPlace { inter, number })?;
+                let found = find(&self.inspection, &(*inter, *number))?;
                 Ok(found.map(RegisterRecord::Inspection))
             }
             RegisterKey::Order(inter, number) => {
-                let (inter, number) = (*inter, *number);
-                let found = find(&self.work_order, &RecordPlace { inter, number })?;
+                let found = find(&self.work_order, &(*inter, *number))?;
                 Ok(found.map(RegisterRecord::Order))
             }
             RegisterKey::Line(inter, order, line) => {
-                let (inter, order, line) = (*inter, *order, *line);
-                let found = find(&self.used_part, &LinePlace { inter, order, line })?;
+                let found = find(&self.used_part, &(*inter, (*order, *line)))?;
                 Ok(found.map(RegisterRecord::Line))
             }
             RegisterKey::Part(part) => {
-                let found = hand_of(&self.part, part);
+                let found = find(&self.part, part)?;
                 Ok(found.map(RegisterRecord::Part))
             }
             RegisterKey::Delivery(part, number) => {
-                let (part, number) = (PartCode::clone(part)?, *number);
-                let found = find(&self.delivery, &DeliveryPlace { part, number })?;
+                let found = find(&self.delivery, &(PartCode::clone(part)?, *number))?;
                 Ok(found.map(RegisterRecord::Delivery))
             }
         }

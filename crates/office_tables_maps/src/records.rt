@@ -1,157 +1,201 @@
 //! The records that the tables in memory keep, and where each stands.
 
 use crate::kept::Kept;
-use crate::place::{DeliveryPlace, LinePlace, Place, RecordPlace};
 use cabinet_core::{
-    Delivery, Inspection, Order, UsedLine, delivery_is_within, inspection_is_within,
-    order_is_within, used_line_is_within,
+    Delivery, Hand, Inspection, Order, PartCode, UsedLine, delivery_is_within,
+    inspection_is_within, order_is_within, used_line_is_within,
 };
-use office_tables_shelf::bounds::intersection_is_within;
+use office_tables_shelf::bounds::{intersection_is_within, part_is_within};
 use office_tables_shelf::rows::IntersectionRow;
-use signal_records::{InterId, NoMemory, Row, key_is_within, row_is_within};
-
-impl Kept for Inspection {
-    ghost use Rattle.office_tables_shelf.specs.CabinetRows.{inspection_columns};
-    ghost use Rattle.office_tables_maps.specs.MapCabinet.{IsInspectionAt};
-
-    type Of = InterId;
-
-    type Place = RecordPlace;
-
-    ghost place = { λ id inspection. record { inter = id; number = inspection.number } };
-
-    ghost columns = { inspection_columns };
-
-    ghost stands = { IsInspectionAt };
-
-    ghost copies = { λ _ _ same. same };
-
-    fn place(&self, inter: InterId) -> Result<RecordPlace, NoMemory> {
-        inspection_is_within(self);
-        // shows the range of the intersection's number, without which no inspection stands there
-        let _inter = inter.get();
-        let number = self.number;
-        Ok(RecordPlace { inter, number })
-    }
-}
-
-impl Kept for Order {
-    ghost use Rattle.office_tables_shelf.specs.CabinetRows.{order_columns};
-    ghost use Rattle.office_tables_maps.specs.MapCabinet.{IsOrderAt};
-
-    type Of = InterId;
-
-    type Place = RecordPlace;
-
-    ghost place = { λ id order. record { inter = id; number = order.number } };
-
-    ghost columns = { order_columns };
-
-    ghost stands = { IsOrderAt };
-
-    ghost copies = { λ _ _ same. same };
-
-    fn place(&self, inter: InterId) -> Result<RecordPlace, NoMemory> {
-        order_is_within(self);
-        // shows the range of the intersection's number, without which no order stands there
-        let _inter = inter.get();
-        let number = self.number;
-        Ok(RecordPlace { inter, number })
-    }
-}
-
-impl Kept for UsedLine {
-    ghost use Rattle.office_tables_shelf.specs.CabinetRows.{used_columns};
-    ghost use Rattle.office_tables_maps.specs.MapCabinet.{IsUsedAt};
-
-    type Of = InterId;
-
-    type Place = LinePlace;
-
-    ghost place = { λ id used. record { inter = id; order = used.order; line = used.line } };
-
-    ghost columns = { used_columns };
-
-    ghost stands = { IsUsedAt };
-
-    ghost copies = { λ _ _ same. same };
-
-    fn place(&self, inter: InterId) -> Result<LinePlace, NoMemory> {
-        used_line_is_within(self);
-        let (order, line) = (self.order, self.line);
-        Ok(LinePlace { inter, order, line })
-    }
-}
-
-/// A delivery names all of its place: its part and its number.
-impl Kept for Delivery {
-    ghost use Rattle.office_tables_shelf.specs.CabinetRows.{delivery_columns};
-    ghost use Rattle.office_tables_maps.specs.MapCabinet.{IsDeliveryAt};
-
-    type Of = ();
-
-    type Place = DeliveryPlace;
-
-    ghost place = { λ _ delivery. record { part = delivery.part; number = delivery.number } };
-
-    ghost columns = { delivery_columns };
-
-    ghost stands = { IsDeliveryAt };
-
-    ghost copies = { λ _ _ same. same };
-
-    fn place(&self, _of: ()) -> Result<DeliveryPlace, NoMemory> {
-        delivery_is_within(self);
-        let part = self.part.clone()?;
-        let number = self.number;
-        Ok(DeliveryPlace { part, number })
-    }
-}
+use signal_records::{
+    Change, InterId, Key, LineNo, NoMemory, RecordNo, Row, change_is_within, changed_key,
+    key_is_within, row_is_within,
+};
 
 impl Kept for IntersectionRow {
-    ghost use Rattle.office_tables_shelf.specs.Rows.{intersection_columns};
-    ghost use Rattle.office_tables_shelf.specs.Shelf.{IsIntersectionWithin};
+    ghost use Rattle.office_tables_maps.specs.Records.{intersection_stored, intersection_laws};
 
     type Of = InterId;
 
     type Place = InterId;
 
-    ghost place = { λ id _. id };
+    ghost stored = { intersection_stored };
 
-    ghost columns = { intersection_columns };
-
-    ghost stands = { λ id row. IsIntersectionWithin (id, row) };
-
-    ghost copies = { λ _ _ same. same };
+    ghost laws = { intersection_laws };
 
     fn place(&self, inter: InterId) -> Result<InterId, NoMemory> {
         intersection_is_within(inter, self);
         Ok(inter)
     }
+
+    fn copy(&self) -> Result<IntersectionRow, NoMemory> {
+        Ok(self.clone()?)
+    }
 }
 
-/// A timing row stands under its own key.
 impl Kept for Row {
-    ghost use Rattle.signal_records.specs.Row.{key_of};
-    ghost use Rattle.office_tables_shelf.specs.Rows.{timing_columns};
-    ghost use Rattle.office_tables_maps.specs.MapShelf.{IsRowAt};
+    ghost use Rattle.office_tables_maps.specs.Keys.{plan_laws};
+    ghost use Rattle.office_tables_maps.specs.Records.{timing_stored, of_intersection_laws};
 
     type Of = InterId;
 
-    type Place = Place;
+    type Place = (InterId, Key);
 
-    ghost place = { λ id row. record { inter = id; key = key_of row } };
+    ghost stored = { timing_stored };
 
-    ghost columns = { timing_columns };
+    ghost laws = { of_intersection_laws plan_laws };
 
-    ghost stands = { λ place row. IsRowAt place.key row };
-
-    ghost copies = { λ _ _ same. same };
-
-    fn place(&self, inter: InterId) -> Result<Place, NoMemory> {
+    fn place(&self, inter: InterId) -> Result<(InterId, Key), NoMemory> {
         row_is_within(self);
         key_is_within(self.key());
+        let _inter = inter.get();
         let key = self.key();
-        Ok(Place { inter, key })
+        Ok((inter, key))
+    }
+
+    fn copy(&self) -> Result<Row, NoMemory> {
+        Ok(self.clone()?)
+    }
+}
+
+/// A draft row stands under the key of the change that it keeps.
+impl Kept for Change {
+    ghost use Rattle.office_tables_maps.specs.Keys.{plan_laws};
+    ghost use Rattle.office_tables_maps.specs.Records.{draft_stored, of_intersection_laws};
+
+    type Of = InterId;
+
+    type Place = (InterId, Key);
+
+    ghost stored = { draft_stored };
+
+    ghost laws = { of_intersection_laws plan_laws };
+
+    fn place(&self, inter: InterId) -> Result<(InterId, Key), NoMemory> {
+        change_is_within(self);
+        key_is_within(changed_key(self));
+        let _inter = inter.get();
+        let key = changed_key(self);
+        Ok((inter, key))
+    }
+
+    fn copy(&self) -> Result<Change, NoMemory> {
+        Ok(match self {
+            Change::Put(row) => Change::Put(row.clone()?),
+            Change::Remove(key) => Change::Remove(*key),
+        })
+    }
+}
+
+impl Kept for Inspection {
+    ghost use Rattle.office_tables_maps.specs.Keys.{record_laws};
+    ghost use Rattle.office_tables_maps.specs.Records.{inspection_stored, of_intersection_laws};
+
+    type Of = InterId;
+
+    type Place = (InterId, RecordNo);
+
+    ghost stored = { inspection_stored };
+
+    ghost laws = { of_intersection_laws record_laws };
+
+    fn place(&self, inter: InterId) -> Result<(InterId, RecordNo), NoMemory> {
+        inspection_is_within(self);
+        let _inter = inter.get();
+        Ok((inter, self.number))
+    }
+
+    fn copy(&self) -> Result<Inspection, NoMemory> {
+        Ok(self.clone()?)
+    }
+}
+
+impl Kept for Order {
+    ghost use Rattle.office_tables_maps.specs.Keys.{record_laws};
+    ghost use Rattle.office_tables_maps.specs.Records.{order_stored, of_intersection_laws};
+
+    type Of = InterId;
+
+    type Place = (InterId, RecordNo);
+
+    ghost stored = { order_stored };
+
+    ghost laws = { of_intersection_laws record_laws };
+
+    fn place(&self, inter: InterId) -> Result<(InterId, RecordNo), NoMemory> {
+        order_is_within(self);
+        let _inter = inter.get();
+        Ok((inter, self.number))
+    }
+
+    fn copy(&self) -> Result<Order, NoMemory> {
+        Ok(self.clone()?)
+    }
+}
+
+impl Kept for UsedLine {
+    ghost use Rattle.office_tables_maps.specs.Keys.{line_laws};
+    ghost use Rattle.office_tables_maps.specs.Records.{used_stored, of_intersection_laws};
+
+    type Of = InterId;
+
+    type Place = (InterId, (RecordNo, LineNo));
+
+    ghost stored = { used_stored };
+
+    ghost laws = { of_intersection_laws line_laws };
+
+    fn place(&self, inter: InterId) -> Result<(InterId, (RecordNo, LineNo)), NoMemory> {
+        used_line_is_within(self);
+        let _inter = inter.get();
+        Ok((inter, (self.order, self.line)))
+    }
+
+    fn copy(&self) -> Result<UsedLine, NoMemory> {
+        Ok(self.clone()?)
+    }
+}
+
+/// How many of a part are on hand stands under its code.
+impl Kept for Hand {
+    ghost use Rattle.office_tables_maps.specs.Records.{hand_stored, hand_laws};
+
+    type Of = PartCode;
+
+    type Place = PartCode;
+
+    ghost stored = { hand_stored };
+
+    ghost laws = { hand_laws };
+
+    fn place(&self, part: PartCode) -> Result<PartCode, NoMemory> {
+        part_is_within(&part, *self);
+        Ok(part)
+    }
+
+    fn copy(&self) -> Result<Hand, NoMemory> {
+        Ok(*self)
+    }
+}
+
+/// A delivery names all of its place: its part and its number.
+impl Kept for Delivery {
+    ghost use Rattle.office_tables_maps.specs.Records.{delivery_stored, delivery_laws};
+
+    type Of = ();
+
+    type Place = (PartCode, RecordNo);
+
+    ghost stored = { delivery_stored };
+
+    ghost laws = { delivery_laws };
+
+    fn place(&self, _of: ()) -> Result<(PartCode, RecordNo), NoMemory> {
+        delivery_is_within(self);
+        Ok((self.part.clone()?, self.number))
+    }
+
+    fn copy(&self) -> Result<Delivery, NoMemory> {
+        Ok(self.clone()?)
     }
 }
