@@ -5,8 +5,8 @@ which rules it breaks. Rows that the file does not name stay.
     examples/plan.py OFFICE ID CLERK CSV      OFFICE as http://127.0.0.1:8080
 
 Each step is sent once; commit.py copes with answers that are missing. The status is 3 if the plan
-breaks a rule; any other refusal ends with status 1 and what came. Its draft is dropped then, and if
-a row is bad.
+breaks a rule; any other refusal ends with status 1 and what came. The draft is dropped if the plan
+breaks a rule or its rows are refused; after anything else it may stay open.
 """
 import json
 import pathlib
@@ -27,7 +27,7 @@ def ask(url, keys=None):
             return json.load(answer)
     except urllib.error.HTTPError as refusal:
         said = f"{url}: {refusal.code} {refusal.read().decode(errors='replace')}"
-        raise Refused(said) if refusal.code == 400 else SystemExit(said)
+        raise Refused(said) if refusal.code in (400, 413) else SystemExit(said)
     except OSError as it:
         sys.exit(f"{url}: {it}. Ask for the intersection: a changed state or revision shows that the "
                  "step was done. edit-csv changes neither: compare the draft.")
