@@ -61,7 +61,7 @@ SENTENCES = [
     (PLANS, f"from curb to curb \\| none \\| {ANY} to {ANY} tenths", "Width.low", "Width.high"),
     (PLANS, f"a pedestrian starts \\| none \\| {ANY} to {ANY} tenths", "Setback.low",
      "Setback.high"),
-    (PLANS, f"before the green \\| none \\| {ANY} to {ANY} seconds", "Lead.low", "Lead.high"),
+    (PLANS, f"before the green \\| none [^|]*\\| {ANY} to {ANY} seconds", "Lead.low", "Lead.high"),
     (PLANS, f"`patternCycleTime` \\| {ANY} to {ANY} seconds", "Cycle.low", "Cycle.high"),
     (PLANS, f"at revision {ANY};", "LAST_REVISION"),
     (PLANS, f"more than {ANY} on hand", "MOST_ON_HAND"),
