@@ -1,12 +1,12 @@
 -- Intersections that were found, and what is known of them.
-use Rattle.std.proofs.Common.{◌≡◌, ◌≢◌, ℕ, Bool, true, false, List, [], Option, None, Some, Result, Ok, Err, nat_cmp, sym, ap, subst, ◌∙◌, true≢false}
-use Rattle.std.proofs.lemmas.List.Elements.{All-contains, All-nil}
+use Rattle.std.proofs.Common.{◌≡◌, ◌≢◌, ℕ, Bool, true, false, List, [], Some, Result, Ok, Err, nat_cmp, sym, ap, subst, ◌∙◌, true≢false}
+use Rattle.std.proofs.lemmas.List.Elements.{All-nil}
 use Rattle.std.proofs.lemmas.Map.Lookups.{CmpEqualImpliesEq, exact_unsigned}
 use Rattle.std.proofs.lemmas.Map.Views.{All-insert_key, Contains-from_any, tells_apart}
 use Rattle.std.specs.{BTreeSet.BTreeSet, BTreeSet.insert_key, List.All, List.Contains, List.list_any, Ordering.eq_by_cmp}
 use Rattle.office_tables_shelf.specs.{Content.Content, declared.shelf.ShelfFault.ShelfFault}
 use Rattle.office_tables_shelf.proofs.TreeLemmas.{ranged_cmp, then_last}
-use Rattle.office_desk.specs.Recording.{AreFound, IsAmong, TellsIntersection}
+use Rattle.office_desk.specs.Recording.{AreFound, TellsIntersection}
 
 ranged_exact : CmpEqualImpliesEq ranged_cmp
 ranged_exact a b same = exact_unsigned a b (sym (then_last (nat_cmp a b)) ∙ same)
@@ -21,12 +21,6 @@ pub none_found : (tables : Content) (found : BTreeSet ℕ) → found.keys ≡ []
 none_found tables found none =
     subst (λ (ids : List ℕ). All (λ id. TellsIntersection tables (Some id) true) ids) (sym none)
     (All-nil (λ id. TellsIntersection tables (Some id) true))
-
-pub among_found : (tables : Content) (found : BTreeSet ℕ) (about : Option ℕ)
-    → AreFound tables found → IsAmong found about → TellsIntersection tables about true
-among_found tables found None all among = absurd among
-among_found tables found (Some id) all among =
-    All-contains (λ id. TellsIntersection tables (Some id) true) found.keys id all among
 
 pub one_found : (tables : Content) (found more : BTreeSet ℕ) (id : ℕ)
     → more.keys ≡ insert_key ranged_cmp found.keys id → AreFound tables found

@@ -1,7 +1,7 @@
 -- What was recorded stays recorded: so an import that was accepted finds all of its records there when it is sent again.
 use Rattle.std.proofs.Common.{◌≡◌, inl, inr, ℕ, ◌+◌, true, false, cond, List, [], ◌∷◌, length, Option, Some, None, Result, Ok, Err, refl, ap, sym, subst, ◌∙◌, arith}
 use Rattle.std.specs.{Prelude.is_some, Cmp.nat_cmp_total, FinMap.get, FinMap.get-insert, Ordering.nat_cmp, Ordering.eq_by_cmp}
-use Rattle.cabinet_core.specs.{Cabinet.added as added_line, Cabinet.same as same_line, Step.line_at}
+use Rattle.cabinet_core.specs.{Cabinet.added as added_line, Cabinet.same as same_line, Step.line_at, Step.with_record}
 use Rattle.cabinet_core.specs.declared.command.RecordCommand.{RecordCommand}
 use Rattle.cabinet_core.proofs.RecordKept.{same_after, same_kept}
 use Rattle.office_machine.specs.Step.{Step, Run, with_intersection, new_intersection, cabinet_of, is_known, with_recorded, import_by, import_from, import_step}
@@ -9,6 +9,7 @@ use Rattle.office_machine.specs.{Office.Office, Office.Intersection, Repeats.IsR
 use Rattle.office_machine.specs.declared.{command.Command.Command, refusal.Refusal.Refusal, refusal.Refusal.TheVariants.Unavailable, reply.Reply.Reply}
 use Rattle.office_machine.specs.declared.reply.Reply.TheVariants.{Imported, Refused}
 use Rattle.office_machine.specs.declared.command.Command.TheVariants as command
+use Rattle.office_desk.proofs.Recorded.{same_known}
 use Rattle.office_desk.proofs.Walks.{HoldsOfEach, HoldsOfRecords, records_so, step_so}
 
 -- ---- records that are there
@@ -30,9 +31,6 @@ all_kept : (office next : Office) (records : List RecordCommand) → Keeps offic
 all_kept office next [] keeps there = tt
 all_kept office next (c ∷ cs) keeps there = (keeps c there.0, all_kept office next cs keeps there.1)
 
-stays : (office : Office) → Keeps office office
-stays office c there = there
-
 -- ---- one record, one intersection
 
 -- an intersection more, or another in its place
@@ -46,12 +44,8 @@ intersection_keeps : (office : Office) (id : ℕ) (i : Intersection) → Keeps o
 intersection_keeps office id i c there = (known_with office id i (cabinet_of c) there.0, there.1)
 
 -- a record in the register leaves the intersections
-known_so : (office : Office) (c : RecordCommand) (about : Option ℕ) → is_known office about ≡ true → is_known (with_recorded office c) about ≡ true
-known_so office c None known = refl
-known_so office c (Some id) known = known
-
 record_keeps : (office : Office) (c : RecordCommand) → line_at office.register c ≡ added_line → Keeps office (with_recorded office c)
-record_keeps office c line d there = (known_so office c (cabinet_of d) there.0, same_kept office.register d c line there.1)
+record_keeps office c line d there = (sym (same_known office (with_record office.register c) (cabinet_of d)) ∙ there.0, same_kept office.register d c line there.1)
 
 -- ---- imports
 
@@ -61,10 +55,10 @@ Brings office records next = Keeps office next × AreThere next records
 
 each_brought : HoldsOfRecords Brings
 each_brought = record {
-  none = λ office. (stays office, tt);
+  none = λ office. ((λ c there. there), tt);
   new = λ office c cs next there line later. (
     (λ d was. later.0 d (record_keeps office c line d was)),
-    (later.0 c (known_so office c (cabinet_of c) there, same_after office.register c line), later.1),
+    (later.0 c (sym (same_known office (with_record office.register c) (cabinet_of c)) ∙ there, same_after office.register c line), later.1),
   );
   old = λ office c cs next there line later. (later.0, (later.0 c (there, line), later.1));
 }
@@ -88,7 +82,7 @@ import_again (c ∷ cs) at added same office there =
 
 each_keeps : (office : Office) → HoldsOfEach office (λ asked said next. Keeps office next)
 each_keeps office = record {
-  stays = λ asked said unmoved none. stays office;
+  stays = λ asked said unmoved none c there. there;
   adds = λ id interval name absent. intersection_keeps office id (new_intersection interval name);
   moves = λ id clerk ask i next there took.
       intersection_keeps office id (record i { timing = next });

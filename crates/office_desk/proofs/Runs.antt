@@ -1,7 +1,5 @@
 -- From a decision to a step that was made, and from steps to runs.
-use Rattle.std.proofs.Common.{◌≡◌, ◌≢◌, ◌≤◌, ◌⊎◌, List, [], ◌∷◌, ◌++◌, ℕ, Option, Some, None, refl, ap, sym, subst, ◌∙◌, inl, inr, ⊎_elim, length, true, arith}
-use Rattle.std.proofs.lemmas.Bool.Decides.{nat_tests}
-use Rattle.std.specs.Prelude.{◌==◌, Result, Err}
+use Rattle.std.proofs.Common.{◌≡◌, ◌≢◌, ◌≤◌, ◌⊎◌, List, [], ◌∷◌, ◌++◌, ℕ, Option, Some, None, refl, ap, sym, subst, ◌∙◌, inl, inr, ⊎_elim, arith}
 use Rattle.draft_core.specs.declared.timing.Reach.{Reach}
 use Rattle.draft_core.specs.declared.timing.Reach.TheVariants as reach
 use Rattle.office_tables_shelf.specs.{Change.AddNew, Change.changed_by, Content.Content, Counts.counts_after, Counts.writes_in, Keeps.KeepsShelf}
@@ -11,7 +9,7 @@ use Rattle.office_tables_shelf.specs.RegisterStands.{RegisterStandsSound}
 use Rattle.office_desk.specs.Answers.{AnswersAny, Answers, StandsAfterStep}
 use Rattle.office_desk.specs.Deciding.{AddsNothing, DecidesIdly, IsAnswered, IsDecision, IsIdle}
 use Rattle.office_desk.specs.Damage.{HasDamageIn, MeetsAfter, MeetsCabinetDamage, MeetsImportDamage, MeetsDamage}
-use Rattle.office_desk.specs.{Changes.IsRefused, Changes.most_writes, Running.AreRun, Running.CarriesOut, Running.IsRun, Running.MakesTables, Running.RunsAny, Running.RunsTo, Running.TellsTables, Running.WritesAll, Named.IsNamedFor, Named.RefusesBy, Named.numbers_of, StandFor.StandForSound}
+use Rattle.office_desk.specs.{Changes.IsRefused, Changes.most_writes, Running.AreRun, Running.CarriesOut, Running.IsRun, Running.MakesTables, Running.RunsAny, Running.RunsTo, Running.TellsTables, Running.WritesAll, Named.IsNamedFor, StandFor.StandForSound}
 use Rattle.office_desk_timing.specs.Decisions.{refusal_of}
 use Rattle.office_tables_decisions.specs.declared.decided.Decided.{Decided}
 use Rattle.cabinet_core.specs.declared.command.RecordCommand.{RecordCommand}
@@ -26,16 +24,6 @@ use Rattle.office_desk.proofs.Making.{IsReached, idle_ends, takes_effect}
 use Rattle.office_desk.proofs.{Recorded.register_of, RegisterLaws.runs_register, Repeats.runs_repeat, Street.keeps_the_street, TimingLaw.runs_timing, Writes.no_rise, Writes.rise_at_most}
 
 -- ---- a decision
-
-unavailable_answers : (tables : Content) (command : Command) (reply : Reply) (changes : List RowChange) → reply ≡ Refused Unavailable → changes ≡ [] → AnswersAny tables command reply (changed_by tables changes)
-unavailable_answers tables command reply changes r e office stands = record {
-  next = office;
-  step = inl (r, refl);
-  stand = subst (λ list. StandForSound (changed_by tables list) office) (sym e) stands;
-}
-
-same_answers : (old new : Content) (command : Command) (reply : Reply) (changes : List RowChange) → AnswersAny old command reply (changed_by old changes) → new ≡ changed_by old changes → AnswersAny old command reply new
-same_answers old new command reply changes answers e office stands = subst (Answers office command reply) (sym e) (answers office stands)
 
 pub reply_answers : (tables : Content) (command : Command) (reply told : Reply) (changes : List RowChange) → AnswersAny tables command reply tables → told ≡ reply → changes ≡ [] → AnswersAny tables command told (changed_by tables changes)
 reply_answers tables command reply told changes answers r e office stands =
@@ -90,7 +78,8 @@ module _ (tables : Content) (office : Office) (stands : StandForSound tables off
 -- a fault of the shelf, answered as its refusal
 fault_answers : (tables : Content) (command : Command) (fault : ShelfFault) (reply : Reply) (changes : List RowChange) → (fault ≡ Damaged → MeetsDamage tables command) → reply ≡ Refused (refusal_of fault) → changes ≡ [] → AnswersAny tables command reply (changed_by tables changes)
 fault_answers tables command Damaged reply changes meets r e = λ office stands. absurd (damage_refuted tables office stands command (meets refl))
-fault_answers tables command _ reply changes meets r e = unavailable_answers tables command reply changes r e
+fault_answers tables command _ reply changes meets r e = reply_answers tables command (Refused Unavailable) reply changes
+    (λ office stands. record { next = office; step = inl (refl, refl); stand = stands }) r e
 
 fault_damaged : (fault : ShelfFault) → Refused (refusal_of fault) ≡ Refused refusal.Damaged → fault ≡ Damaged
 fault_damaged Damaged told = refl
@@ -103,15 +92,8 @@ fault_named : (command : Command) (fault : ShelfFault) (reply : Reply) → reply
 fault_named command Damaged reply e = λ why told. inr (inl (refused_as refusal.Damaged why (sym e ∙ told)))
 fault_named command _ reply e = λ why told. inl (refused_as Unavailable why (sym e ∙ told))
 
-named_more : (command : Command) (reply : Reply) → RefusesBy (numbers_of command) reply → IsNamedFor command reply
-named_more command reply named = λ why told. inr (inr (named why told))
-
 pub unavailable_named : (command : Command) → IsNamedFor command (Refused Unavailable)
 unavailable_named command = λ why told. inl (refused_as Unavailable why told)
-
-pub no_items : (changes : List RowChange) → true ≡ (length changes == 0) → changes ≡ []
-no_items [] e = refl
-no_items (x ∷ xs) e = absurd (grind (arith, nat_tests))
 
 pub none_or_some : (changes : List RowChange) → (changes ≡ []) ⊎ (changes ≢ [])
 none_or_some [] = inl refl
@@ -125,7 +107,7 @@ decided_answers is_honest tables command decided is = record {
   news = is.news;
   refused = is.refused;
   query = is.query;
-  named = named_more command decided.reply is.named;
+  named = λ why told. inr (inr (is.named why told));
   damaged = λ told. absurd (is.undamaged told);
 }
 
@@ -177,11 +159,6 @@ pub fault_shut : (is_honest : Type 0) (command : Command) (fault : ShelfFault) (
     → decided.reply ≡ Refused (refusal_of fault) → decided.changes.items ≡ [] → is_honest ⊎ DecidesIdly command decided
 fault_shut is_honest command Damaged decided reads some told none = inl (reads refl some)
 fault_shut is_honest command _ decided reads some told none = inr (record { idle = inl told; no_changes = none })
-
--- a fault as a refusal
-pub refusal_shut : {A : Type 0} (is_honest : Type 0) (fault : ShelfFault) (result : Result A Refusal) → (fault ≡ Damaged → is_honest) → result ≡ Err (refusal_of fault) → is_honest ⊎ (result ≡ Err Unavailable)
-refusal_shut is_honest Damaged result told is = inl (told refl)
-refusal_shut is_honest _ result told is = inr is
 
 -- what is answered on a clean disk alone
 pub answered_clean : (is_clean is_honest : Type 0) (tables : Content) (command : Command) (decided : Decided) → (is_clean → is_honest ⊎ DecidesIdly command decided)

@@ -90,22 +90,10 @@ one_more true false false rest found same none = same
 one_more true true true rest found same none = refl
 one_more true true false rest found same none = same ∙ none refl
 
-among_more : (n : ℕ) (b : Bool) (order : Order) (orders : List Order)
-    → is_among_numbers (numbers_of (cond b (order ∷ orders) orders)) n ≡ cond b (cond (is_open order) ((order.number == n) || is_among_numbers (numbers_of orders) n) (is_among_numbers (numbers_of orders) n)) (is_among_numbers (numbers_of orders) n)
-among_more n false order orders = refl
-among_more n true order orders = go (is_open order)
-  where
-    go : (b : Bool) → is_among_numbers (map (λ (o : Order). o.number) (cond b (order ∷ filter is_open orders) (filter is_open orders))) n ≡ cond b ((order.number == n) || is_among_numbers (numbers_of orders) n) (is_among_numbers (numbers_of orders) n)
-    go true = refl
-    go false = refl
-
-chosen : (b : Bool) (e : Entry) (es : List (Entry)) → map (λ (d : Entry). d.1) (cond b (e ∷ es) es) ≡ cond b (e.1 ∷ map (λ (d : Entry). d.1) es) (map (λ (d : Entry). d.1) es)
-chosen true e es = refl
-chosen false e es = refl
-
-open_order : (b : Bool) (order : Order) (there : Option Order) → is_open_order (cond b (Some order) there) ≡ cond b (is_open order) (is_open_order there)
-open_order true order there = refl
-open_order false order there = refl
+-- what is made of either is made of the one that it is
+of_either : {X Y : Type 0} (f : X → Y) (b : Bool) (x y : X) → cond b (f x) (f y) ≡ f (cond b x y)
+of_either f true x y = refl
+of_either f false x y = refl
 
 open_listed : (id n : ℕ) (es : List (Entry)) → T (is_sorted record_cmp es) → AllByRecursion (λ e. IsNumbered e.0 e.1) es
     → is_among_numbers (open_of id es) n ≡ is_open_order (finite.find record_cmp (id, n) es)
@@ -114,11 +102,15 @@ open_listed id n (e ∷ es) sorted each =
     let later = is_among_numbers (open_of id es) n in
     let there = is_open_order (finite.find record_cmp (id, n) es) in
     let ties : eq_by_cmp record_cmp (id, n) e.0 ≡ ((e.0.0 == id) && (e.1.number == n)) = record_ties id n e.0.0 e.0.1 ∙ ap (λ m. (e.0.0 == id) && (m == n)) (sym each.0) in
-    ap (λ (orders : List Order). is_among_numbers (numbers_of orders) n) (chosen (of_id id e.0) e (where_key record_cmp (of_id id) es))
-    ∙ among_more n (of_id id e.0) e.1 (map (λ (d : Entry). d.1) (where_key record_cmp (of_id id) es))
+    let of : List Entry = where_key record_cmp (of_id id) es in
+    let still : List Order = filter is_open (map (λ (d : Entry). d.1) of) in
+    sym (of_either (λ (ds : List Entry). is_among_numbers (numbers_of (map (λ (d : Entry). d.1) ds)) n) (of_id id e.0) (e ∷ of) of)
+    ∙ ap (λ b. cond (of_id id e.0) b later)
+    (sym (of_either (λ (orders : List Order). is_among_numbers (map (λ (o : Order). o.number) orders) n) (is_open e.1) (e.1 ∷ still) still))
     ∙ one_more (e.0.0 == id) (e.1.number == n) (is_open e.1) later there (open_listed id n es (parts _ _ sorted).1 each.1)
     (λ both. ap is_open_order (none_above (id, n) e.0 es (ties ∙ both) (parts _ _ sorted).0))
-    ∙ sym (open_order (eq_by_cmp record_cmp (id, n) e.0) e.1 (finite.find record_cmp (id, n) es) ∙ ap (λ b. cond b (is_open e.1) there) ties)
+    ∙ sym (sym (of_either is_open_order (eq_by_cmp record_cmp (id, n) e.0) (Some e.1) (finite.find record_cmp (id, n) es))
+    ∙ ap (λ b. cond b (is_open e.1) there) ties)
 
 -- the orders that are shown are those that records that were accepted left open
 pub open_shown : (first now : Register) (so_far : List RecordCommand) → AreAccepted first so_far now → IsTidy now → (id n : ℕ) → is_among_numbers (open_at now id) n ≡ open_by id n (is_open_at first id n) so_far

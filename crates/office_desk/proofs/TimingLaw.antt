@@ -32,19 +32,13 @@ owned_keeps stage wrong clerk next_draft side next e =
     (λ draft. Ok (with_draft side (next_draft draft))) next e in
     same_set (with_draft side (next_draft took.draft)) next took.gives
 
-begun_keeps : (clerk : List ℕ) → Keeps (λ side. begun_from side clerk side.draft)
-begun_keeps clerk side next e = go side.draft e
-  where
-    go : (d : Option Draft) → begun_from side clerk d ≡ Ok next → next.committed ≡ side.committed
-    go None e = same_set _ next e
-    go (Some draft) e = absurd (let f : Err NotNormal ≡ Ok next = e in cc)
+begun_keeps : (clerk : List ℕ) (held : Option Draft) → Keeps (λ side. begun_from side clerk held)
+begun_keeps clerk None side next e = same_set _ next e
+begun_keeps clerk (Some draft) side next e = absurd (let f : Err NotNormal ≡ Ok next = e in cc)
 
-abandoned_keeps : Keeps (λ side. abandoned_from side side.draft)
-abandoned_keeps side next e = go side.draft e
-  where
-    go : (d : Option Draft) → abandoned_from side d ≡ Ok next → next.committed ≡ side.committed
-    go None e = absurd (let f : Err NotTransaction ≡ Ok next = e in cc)
-    go (Some draft) e = same_set _ next e
+abandoned_keeps : (held : Option Draft) → Keeps (λ side. abandoned_from side held)
+abandoned_keeps None side next e = absurd (let f : Err NotTransaction ≡ Ok next = e in cc)
+abandoned_keeps (Some draft) side next e = same_set _ next e
 
 commit_takes : (clerk : List ℕ) (side next : TimingSide) (instead : Rows) → table_line Commit clerk side ≡ Ok next → next.committed ≡ set_of_draft side.draft instead
 commit_takes clerk side next instead e =
@@ -59,9 +53,9 @@ set_after _ side = side.committed
 
 step_keeps : (step : DraftStep) (clerk : List ℕ) (side next : TimingSide) → table_line step clerk side ≡ Ok next
     → next.committed ≡ set_after step side
-step_keeps Begin clerk side next e = begun_keeps clerk side next e
+step_keeps Begin clerk side next e = begun_keeps clerk side.draft side next e
 step_keeps Commit clerk side next e = commit_takes clerk side next side.committed e
-step_keeps Abandon clerk side next e = abandoned_keeps side next e
+step_keeps Abandon clerk side next e = abandoned_keeps side.draft side next e
 step_keeps _ clerk side next e = owned_keeps _ _ clerk _ side next e
 
 -- ---- one step

@@ -1,6 +1,6 @@
 -- A step of the transaction leads from a sound timing side to a sound one.
-use Rattle.std.proofs.Common.{◌≡◌, ◌+◌, ◌≤◌, ◌==◌, ℕ, true, false, List, [], ◌∷◌, cond, Option, Some, None, Result, Ok, Err, refl, sym, subst, arith}
-use Rattle.std.proofs.lemmas.Bool.Decides.{nat_tests}
+use Rattle.std.proofs.Common.{◌≡◌, ◌+◌, ◌≤◌, ◌==◌, ℕ, false, List, [], ◌∷◌, Option, Some, None, Result, Ok, Err, refl, sym, subst, arith}
+use Rattle.std.proofs.{lemmas.Bool.Decides.nat_tests, lemmas.Bool.cond_both}
 use Rattle.std.specs.{Prelude.IfSome, Ordering.eq_by_cmp, FinMap.get, FinMap.get-remove}
 use Rattle.cabinet_core.proofs.Puts.{all_put}
 use Rattle.signal_records.specs.{Key.key_cmp, KeyOrder.key_total, KeyOrder.key_exact, Row.key_of, Within.IsRowWithin, Within.current_limits, TimingSet.Rows, TimingSet.after_change, TimingSet.after_changes}
@@ -26,10 +26,7 @@ IsRecord key row = IsRowWithin current_limits row × (key_of row ≡ key)
 gone_record : (set : Rows) (k : Key) → AreRecords set → AreRecords (after_change set (Remove k))
 gone_record set k records key =
     subst (λ o. IfSome o (IsRecord key)) (sym (get-remove key_total set k key))
-    (elim (eq_by_cmp key_cmp key k) as (λ b. IfSome (cond b None (get set key)) (IsRecord key)) [
-      | true ↦ tt
-      | false ↦ records key
-    ])
+    (cond_both (eq_by_cmp key_cmp key k) None (get set key) (λ o. IfSome o (IsRecord key)) (λ hit. tt) (λ miss. records key))
 
 records_after : (changes : List Change) (set : Rows) → AreRecords set → AreChangesWithin changes → AreRecords (after_changes set changes)
 records_after [] set records within = records

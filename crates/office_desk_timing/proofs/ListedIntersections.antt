@@ -1,25 +1,14 @@
 -- The list of the intersections row by row, and what it is of an office.
-use Rattle.std.proofs.Common.{◌≡◌, ◌<◌, ◌+◌, ◌++◌, ℕ, List, [], ◌∷◌, map, length, get_or, take, Option, None, Some, refl, ap, sym, ◌∙◌}
-use Rattle.std.proofs.{lemmas.Cmp.nat_cmp_total, lemmas.List.map-append, lemmas.List.take_more}
+use Rattle.std.proofs.Common.{◌≡◌, List, [], ◌∷◌, map, Option, None, Some, refl, ap, ◌∙◌}
+use Rattle.std.proofs.{lemmas.Cmp.nat_cmp_total}
 use Rattle.std.specs.{FinMap.entries, FinMap.get, FinMap.len, List.AllByRecursion, Prelude.IfSome}
 use Rattle.cabinet_core.proofs.EntryLemmas.{entries_stand}
-use Rattle.office_tables_shelf.specs.{Content.Content, declared.rows.IntersectionRow.IntersectionRow}
+use Rattle.office_tables_shelf.specs.{Content.Content}
 use Rattle.office_machine.specs.{Listed.intersection_listed, Listed.intersections_of, Office.Office, Office.Intersection, Office.side_of}
 use Rattle.office_machine.specs.declared.intersections.ListedIntersection.{ListedIntersection}
 use Rattle.office_desk_timing.specs.Listing.{ListsEachIntersection, listed_in, row_listed}
 use Rattle.office_tables_decisions.specs.StandFor.{StandForSound, row_of}
 use Rattle.office_desk_timing.proofs.{IntersectionTable.Entry, IntersectionTable.of_entry, IntersectionTable.rows_read, TimingCount.committed_counted}
-
--- the next row comes last
-pub listed_more : (tables : Content) (rows : List (ℕ × IntersectionRow)) (i : ℕ) (e : ℕ × IntersectionRow) (count : ℕ)
-    (old new : List ListedIntersection) → i < length rows → e ≡ get_or rows i e
-    → row_listed e.0 e.1 count ≡ listed_in tables e → old ≡ map (listed_in tables) (take i rows)
-    → new ≡ old ++ row_listed e.0 e.1 count ∷ [] → new ≡ map (listed_in tables) (take (i + 1) rows)
-listed_more tables rows i e count old new low at counted so_far added =
-    let next : take (i + 1) rows ≡ take i rows ++ e ∷ [] =
-    take_more rows i e low ∙ ap (λ x. take i rows ++ x ∷ []) (sym at) in
-    added ∙ (λ k. so_far k ++ counted k ∷ [])
-    ∙ sym (ap (λ list. map (listed_in tables) list) next ∙ map-append (listed_in tables) (take i rows) (e ∷ []))
 
 -- ---- each intersection is there
 

@@ -1,6 +1,6 @@
 -- The rows of a move make the tables stand for the office with the next timing side.
 use Rattle.std.proofs.Common.{◌≡◌, ℕ, pos, ◌==◌, Bool, true, false, not, List, [], ◌∷◌, cond, Option, Some, None, refl, ap, sym, ◌∙◌, eqb-true}
-use Rattle.std.proofs.lemmas.Bool.{false_from_ne_true}
+use Rattle.std.proofs.lemmas.Bool.{cond_both, false_from_ne_true}
 use Rattle.std.specs.FinMap.{get, insert, remove, get-insert, get-remove, get-retain_keys}
 use Rattle.std.specs.{Option.option_map, Ordering.eq_by_cmp}
 use Rattle.signal_records.specs.{Key.key_cmp, Key.kind_of, Key.first_of, Key.second_of, Row.key_of}
@@ -48,10 +48,8 @@ spared : (id : ℕ) (old new : TableRows) (hits : List Cell → Bool) (put : Opt
 spared id old new hits put at misses keyed = record {
   others = λ q ne key. at (timing_key q key) ∙ ap (λ b. cond b put (get old (timing_key q key))) (misses q ne key);
   keys = λ has cells columns there.
-      elim (hits cells) as (λ b. hits cells ≡ b → cond b put (get old cells) ≡ Some columns → IsTimingKey cells) [
-        | true ↦ λ hit e. keyed cells columns hit e
-        | false ↦ λ miss e. has cells columns e
-      ] refl (sym (at cells) ∙ there);
+      cond_both (hits cells) put (get old cells) (λ o. o ≡ Some columns → IsTimingKey cells)
+      (keyed cells columns) (λ miss. has cells columns) (sym (at cells) ∙ there);
 }
 
 -- ---- what a table has under the keys of an intersection after one change
@@ -142,27 +140,23 @@ pub record HoldsAt (tables : Content) (id : ℕ) (key : Key) (c : Option Row) (s
   pub timing : get tables.timing (timing_key id key) ≡ option_map timing_columns c
   pub draft : get tables.draft (timing_key id key) ≡ said_columns said
 
-put_committed : (b : Bool) (row : Row) (c : Option Row) → cond b (Some (timing_columns row)) (option_map timing_columns c) ≡ option_map timing_columns (overlaid_row c (cond b (leaves row) silent))
-put_committed true row c = refl
-put_committed false row c = refl
+-- what is made of either is made of the one that it is
+of_either : {X Y : Type 0} (f : X → Y) (b : Bool) (x y : X) → cond b (f x) (f y) ≡ f (cond b x y)
+of_either f true x y = refl
+of_either f false x y = refl
 
-gone_committed : (b : Bool) (c : Option Row) → cond b None (option_map timing_columns c) ≡ option_map timing_columns (overlaid_row c (cond b removes silent))
-gone_committed true c = refl
-gone_committed false c = refl
+abbrev committed_columns : Option Row → Said → Option (List Cell)
+committed_columns c said = option_map timing_columns (overlaid_row c said)
 
 put_draft : (b : Bool) (change : Change) (said : Said) → cond b (Some (left_columns (left_by change))) (said_columns said) ≡ said_columns (later_of (cond b (said_by change) silent) said)
 put_draft true (Put row) said = refl
 put_draft true (Remove k) said = refl
 put_draft false change said = refl
 
-gone_draft : (b : Bool) (said : Said) → cond b None (said_columns said) ≡ said_columns (cond b silent said)
-gone_draft true said = refl
-gone_draft false said = refl
-
 module _ (id : ℕ) (tables : Content) (key : Key) (c : Option Row) (said : Said) (h : HoldsAt tables id key c said) where
   row_put : (row : Row) → get (insert tables.timing (timing_key id (key_of row)) (timing_columns row)) (timing_key id key) ≡ option_map timing_columns (overlaid_row c (said_at (Put row) key))
   row_put row = get-put tables.timing id (key_of row) (timing_columns row) key
-      ∙ ap (cond (eq_by_cmp key_cmp key (key_of row)) (Some (timing_columns row))) h.timing ∙ put_committed (eq_by_cmp key_cmp key (key_of row)) row c
+      ∙ ap (cond (eq_by_cmp key_cmp key (key_of row)) (Some (timing_columns row))) h.timing ∙ of_either (committed_columns c) (eq_by_cmp key_cmp key (key_of row)) (leaves row) silent
 
   draft_put : (change : Change) → get (insert tables.draft (timing_key id (changed_key change)) (left_columns (left_by change))) (timing_key id key) ≡ said_columns (later_of (said_at change key) said)
   draft_put change = get-put tables.draft id (changed_key change) (left_columns (left_by change)) key
@@ -174,14 +168,14 @@ module _ (id : ℕ) (tables : Content) (key : Key) (c : Option Row) (said : Said
   holds_then (CommittedNew row) = record { timing = row_put row; draft = h.draft }
   holds_then (Committed (Put row)) = record { timing = row_put row; draft = h.draft }
   holds_then (Committed (Remove k)) = record {
-    timing = get-gone tables.timing id k key ∙ ap (cond (eq_by_cmp key_cmp key k) None) h.timing ∙ gone_committed (eq_by_cmp key_cmp key k) c;
+    timing = get-gone tables.timing id k key ∙ ap (cond (eq_by_cmp key_cmp key k) None) h.timing ∙ of_either (committed_columns c) (eq_by_cmp key_cmp key k) removes silent;
     draft = h.draft;
   }
   holds_then (DraftedNew change) = record { timing = h.timing; draft = draft_put change }
   holds_then (Drafted change) = record { timing = h.timing; draft = draft_put change }
   holds_then (DraftGone k) = record {
     timing = h.timing;
-    draft = get-gone tables.draft id k key ∙ ap (cond (eq_by_cmp key_cmp key k) None) h.draft ∙ gone_draft (eq_by_cmp key_cmp key k) said;
+    draft = get-gone tables.draft id k key ∙ ap (cond (eq_by_cmp key_cmp key k) None) h.draft ∙ of_either said_columns (eq_by_cmp key_cmp key k) silent said;
   }
   holds_then (DraftDropped rows) = record { timing = h.timing; draft = dropped_here tables.draft id key }
 
@@ -190,11 +184,6 @@ holds_after : (id : ℕ) (changes : List TimingChange) (tables : Content) (key :
 holds_after id [] tables key c said h = h
 holds_after id (change ∷ changes) tables key c said h =
     holds_after id changes _ key (committed_by change key c) (said_after change key said) (holds_then id tables key c said h change)
-
-gone_within : (b : Bool) (key : Key) (said : Said) → IsSaid key said
-    → IsSaid key (cond b silent said)
-gone_within true key said within = tt
-gone_within false key said within = within
 
 after_within : (changes : List TimingChange) (key : Key) (said : Said)
     → AreChangesWithin (drafted_in changes) → IsSaid key said
@@ -207,7 +196,7 @@ after_within (Drafted change ∷ changes) key said within before =
     after_within changes key _ within.1
     (later_within key (said_at change key) said (said_at_within change key within.0) before)
 after_within (DraftGone k ∷ changes) key said within before =
-    after_within changes key _ within (gone_within (eq_by_cmp key_cmp key k) key said before)
+    after_within changes key _ within (cond_both (eq_by_cmp key_cmp key k) silent said (IsSaid key) (λ hit. tt) (λ miss. before))
 after_within (DraftDropped rows ∷ changes) key said within before =
     after_within changes key silent within tt
 after_within (_ ∷ changes) key said within before = after_within changes key said within before

@@ -1,5 +1,6 @@
 -- What was read of an intersection, for whichever sound office the tables stand for.
-use Rattle.std.proofs.Common.{◌≡◌, ℕ, Bool, true, false, List, [], ◌∷◌, cond, Option, Some, None, refl, ap, sym, subst, ◌∙◌, IfSome, option_map}
+use Rattle.std.proofs.Common.{◌≡◌, ℕ, List, [], ◌∷◌, Option, Some, None, refl, ap, sym, subst, ◌∙◌, IfSome, option_map}
+use Rattle.std.proofs.lemmas.Bool.{cond_both}
 use Rattle.std.specs.{Ordering.eq_by_cmp, FinMap.get, FinMap.same_map}
 use Rattle.cabinet_core.proofs.Puts.{if_more}
 use Rattle.signal_records.specs.{Key.key_cmp, KeyOrder.key_total, KeyOrder.key_exact, Row.key_of, Within.IsRowWithin, Within.IsChangeWithin, Within.current_limits, declared.key.Key.Key, declared.record.Row.Row, declared.record.Change.Change}
@@ -23,13 +24,11 @@ use Rattle.office_desk_timing.proofs.Stands.{row_read, records_at}
 abbrev IsWithin : Row → Type 0
 IsWithin = IsRowWithin current_limits
 
-row_within : (b : Bool) (row : Row) (o : Option Row) → IsWithin row → IfSome o IsWithin → IfSome (cond b (Some row) o) IsWithin
-row_within true row o here later = here
-row_within false row o here later = later
-
 rows_within : (rows : List Row) (key : Key) → AreRowsWithin rows → IfSome (row_in rows key) IsWithin
 rows_within [] key within = tt
-rows_within (row ∷ rows) key within = row_within (eq_by_cmp key_cmp key (key_of row)) row (row_in rows key) within.0 (rows_within rows key within.1)
+rows_within (row ∷ rows) key within =
+    cond_both (eq_by_cmp key_cmp key (key_of row)) (Some row) (row_in rows key) (λ o. IfSome o IsWithin)
+    (λ hit. within.0) (λ miss. rows_within rows key within.1)
 
 rows_tell : (a b : Option Row) → option_map timing_columns a ≡ option_map timing_columns b → IfSome a IsWithin → IfSome b IsWithin → a ≡ b
 rows_tell None None e in_a in_b = refl
@@ -54,9 +53,6 @@ committed_read tables office id rows stands lists within = same_map key_total ke
 
 -- ---- the draft rows
 
-abbrev Named : Change → Key → Bool
-Named change key = eq_by_cmp key_cmp key (changed_key change)
-
 said_by_within : (change : Change) (key : Key) → key ≡ changed_key change
     → IsChangeWithin current_limits change → IsSaid key (said_by change)
 said_by_within (Put row) key is within = (within, sym is)
@@ -65,11 +61,9 @@ said_by_within (Remove k) key is within = subst (λ k. IsSaid k removes) (sym is
 -- what a change within its limits says of a key
 pub said_at_within : (change : Change) (key : Key) → IsChangeWithin current_limits change
     → IsSaid key (said_at change key)
-said_at_within change key within = go (Named change key) refl
-  where
-    go : (b : Bool) → Named change key ≡ b → IsSaid key (cond b (said_by change) silent)
-    go true named = said_by_within change key (key_exact _ _ (tied _ named)) within
-    go false named = tt
+said_at_within change key within =
+    cond_both (eq_by_cmp key_cmp key (changed_key change)) (said_by change) silent (IsSaid key)
+    (λ named. said_by_within change key (key_exact _ _ (tied _ named)) within) (λ other. tt)
 
 pub later_within : (key : Key) (late early : Said) → IsSaid key late → IsSaid key early
     → IsSaid key (later_of late early)

@@ -1,7 +1,7 @@
 -- What an edit of a plan is answered, on what was found, is a run of its steps, all of them or none.
 use Rattle.std.proofs.Common.{◌≡◌, ◌≢◌, ◌+◌, ◌≤◌, ℕ, List, [], Option, Some, None, Result, Ok, Err, refl, sym, subst, ◌∙◌, inl, inr, arith}
 use Rattle.std.proofs.Math.Path.{subst₂}
-use Rattle.std.specs.Prelude.{IfOk, IsErrAnd, OnErr}
+use Rattle.std.specs.Prelude.{IfOk, OnErr}
 use Rattle.std.specs.FinMap.{get}
 use Rattle.signal_records.specs.{TimingSet.after_changes, declared.record.Change.Change, declared.state.DbState.DbState, declared.state.DbState.TheVariants.Normal}
 use Rattle.signal_rules.specs.Violations.{violations_of}
@@ -13,7 +13,7 @@ use Rattle.draft_core.proofs.OnlyChanges.{among_within}
 use Rattle.office_machine.specs.{Office.Intersection, Office.Office, Office.side_at, Office.side_of, declared.reply.Reply.Reply}
 use Rattle.office_machine.specs.declared.refusal.Refusal.TheVariants as refusal
 use Rattle.office_machine.specs.declared.reply.Reply.TheVariants.{Moved, Refused, Same}
-use Rattle.office_tables_decisions.specs.{Damage.HasDamageIn, StandFor.StandForSound, declared.decided.Decided.Decided}
+use Rattle.office_tables_decisions.specs.{StandFor.StandForSound, declared.decided.Decided.Decided}
 use Rattle.office_tables_shelf.specs.{Change.changed_by, Content.Content, declared.rows.RowChange.RowChange, declared.shelf.ShelfFault.ShelfFault}
 use Rattle.office_tables_shelf.specs.declared.rows.Table.TheVariants as table
 use Rattle.office_tables_shelf.specs.declared.shelf.ShelfFault.TheVariants as fault
@@ -50,12 +50,6 @@ module _ (is_honest : Type 0) (tables : Content) (id : ℕ) (clerk : List ℕ) (
       → IsEditDecision is_honest tables id clerk edit (Refused refusal.UnknownIntersection) []
   unknown_edit finds = told _ (λ side. refl) (λ went_on. went_on) (λ e. cc) (λ honest office stands.
       record { next = office; step = inr (rw (found_none Plan tables office id stands (finds honest).0) (refl, refl)); stand = stands })
-
-  -- a fault of the read that is handed on
-  pub handed_edit : (why : ShelfFault) (result : Result Decided ShelfFault) → IsErrAnd result (λ e. e ≡ why)
-      → (why ≡ fault.Damaged → is_honest → HasDamageIn Plan tables id) → DecidesEdit is_honest tables id clerk edit result
-  handed_edit why (Ok decided) is damage = absurd is
-  handed_edit why (Err other) is damage = λ damaged. damage (sym is ∙ damaged)
 
   -- of one that was found
   module _ (found : Found) {edits settled : List Change} (plans : PlansChanges found.timing edit edits settled)

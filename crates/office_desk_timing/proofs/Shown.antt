@@ -16,7 +16,6 @@ use Rattle.office_tables_decisions.specs.StandFor.{StandForSound, row_of}
 use Rattle.office_machine.specs.{Office.Office, Office.Intersection, Office.IsSoundIntersection, Office.side_of, Step.answered, Step.shown, Step.state_shown, Step.draft_shown, Step.timing_shown, declared.reply.Reply.Reply}
 use Rattle.office_machine.specs.declared.command.Command.TheVariants as command
 use Rattle.draft_core.specs.declared.refusal.DraftRefusal.TheVariants as draft
-use Rattle.office_machine.specs.declared.refusal.Refusal.TheVariants as refusal
 use Rattle.office_machine.specs.declared.reply.Reply.TheVariants as reply
 use Rattle.office_desk_timing.proofs.{Stands.row_read, ReadBack.committed_read, TimingCount.committed_counted}
 
@@ -133,15 +132,6 @@ draft_shows timing side holder rows violations stands held made judged =
     let at = held_draft side.draft holder (sym held ∙ stands.same_holder) in
     let same : rows ≡ at.0.set = made ∙ draft_is stands at.0 at.1 in
     (λ k. reply.Draft (record { owner = (sym at.2 k).owner; rows = same k; violations = (judged ∙ ap violations_of same) k })) ∙ sym (ap draft_shown at.1)
-
-pub no_draft_shows : {draft_rows : RowsByKey} (timing : Timing) (side : TimingSide)
-    → Stands reach.Plan timing draft_rows side → timing.holder ≡ None
-    → reply.Refused (refusal.Draft draft.NotTransaction) ≡ draft_shown side.draft
-no_draft_shows timing side stands free = go side.draft (sym free ∙ stands.same_holder)
-  where
-    go : (d : Option Draft) → None ≡ option_map holder_of d → reply.Refused (refusal.Draft draft.NotTransaction) ≡ draft_shown d
-    go None e = refl
-    go (Some draft) e = absurd (let f : None ≡ Some (holder_of draft) = e in cc)
 
 pub draft_answers : (tables : Content) (office : Office) (id : ℕ) (found : Found) (said : Reply)
     → StandForSound tables office → FindsAny reach.Plan tables id (Some found) → ShowsDraft found said

@@ -1,6 +1,6 @@
 -- The tables that stand for an office: what they hold of an intersection, that each row is a record, and what a new intersection makes of them.
-use Rattle.std.proofs.Common.{◌≡◌, ℕ, List, Option, Some, None, refl, ap, sym, subst, ◌∙◌, cond, true, false, inl, inr, IfSome, pos, option_map, arith}
-use Rattle.std.proofs.lemmas.Bool.Decides.{nat_tests}
+use Rattle.std.proofs.Common.{◌≡◌, ℕ, List, Option, Some, None, refl, ap, sym, subst, ◌∙◌, true, false, inl, inr, IfSome, pos, option_map, arith}
+use Rattle.std.proofs.{lemmas.Bool.Decides.nat_tests, lemmas.Bool.cond_both}
 use Rattle.std.specs.FinMap.{get, insert, get-insert, nat_cmp-IsAntisymmetric}
 use Rattle.std.specs.{Cmp.nat_cmp_total, Int.IsInRange, Ordering.nat_cmp, Ordering.eq_by_cmp}
 use Rattle.cabinet_core.proofs.Puts.{all_put}
@@ -137,10 +137,10 @@ pub data SideAfter (office : Office) (id : ℕ) (i : Intersection) (q : ℕ) : T
 
 pub side_after : (office : Office) (id : ℕ) (i : Intersection) (q : ℕ) → SideAfter office id i q
 side_after office id i q =
-    elim (eq_by_cmp nat_cmp q id) as (λ b. eq_by_cmp nat_cmp q id ≡ b → side_at (with_intersection office id i) q ≡ side_of (cond b (Some i) (get office.intersections q)) → SideAfter office id i q) [
-      | true ↦ λ hit is. same_id (nat_cmp-IsAntisymmetric q id (tied _ hit)) is
-      | false ↦ λ miss is. other_id (apart q id miss) is
-    ] refl (ap side_of (get-insert nat_cmp_total office.intersections id i q))
+    cond_both (eq_by_cmp nat_cmp q id) (Some i) (get office.intersections q)
+    (λ o. side_at (with_intersection office id i) q ≡ side_of o → SideAfter office id i q)
+    (λ hit is. same_id (nat_cmp-IsAntisymmetric q id (tied _ hit)) is) (λ miss is. other_id (apart q id miss) is)
+    (ap side_of (get-insert nat_cmp_total office.intersections id i q))
 
 -- the draft row at a key, of a timing side
 pub record RowOf (tables : Content) (side : TimingSide) (id : ℕ) (key : Key) : Type 0 where

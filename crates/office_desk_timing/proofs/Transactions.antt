@@ -15,7 +15,7 @@ use Rattle.draft_core.specs.declared.timing.Reach.{Reach}
 use Rattle.office_tables_shelf.specs.{Change.changed_by, Content.Content, Shelf.ListsDraft, Shelf.rows_of, Counts.is_same_table, Counts.writes_in}
 use Rattle.office_tables_shelf.specs.declared.{rows.RowChange.RowChange, rows.RowChange.TheVariants.PutIntersection, rows.Table.Table, shelf.ShelfFault.ShelfFault, shelf.ShelfFault.TheVariants.NoMemory}
 use Rattle.office_tables_shelf.specs.declared.rows.Table.TheVariants as table
-use Rattle.office_tables_decisions.specs.{RecordBounds.IsOneOf, Asking.asking_command, Answers.Answers, Changes.IsQueryCommand, Changes.most_intersection_writes, Changes.most_writes, Named.number_of, Named.numbers_of, Damage.HasDamageIn, Damage.MeetsDamage, Deciding.Decides, Deciding.IsDecision}
+use Rattle.office_tables_decisions.specs.{RecordBounds.IsOneOf, Asking.asking_command, Answers.Answers, Changes.IsQueryCommand, Changes.most_intersection_writes, Changes.most_writes, Named.number_of, Named.numbers_of, Deciding.Decides, Deciding.IsDecision}
 use Rattle.draft_core.specs.declared.step.Step.TheVariants.{Begin, Edit, Check, Commit, Abandon}
 use Rattle.draft_core.specs.declared.step.Step.{Step}
 use Rattle.office_tables_decisions.specs.declared.decided.Decided.{Decided}
@@ -275,9 +275,3 @@ absent_decides is_honest tables id clerk step decided finds told none =
     unknown_decides is_honest tables (asking_command id clerk step) decided told (unknown_named id clerk step) none (λ honest office stands.
     by_line step office id clerk ∙ ap (transacted office id (table_line step clerk))
     (found_none (reach_of step) tables office id stands (finds honest).0))
-
--- where a row that is read is no record
-pub meets : (tables : Content) (id : ℕ) (clerk : List ℕ) (step : Step)
-    → HasDamageIn (reach_of step) tables id → MeetsDamage tables (asking_command id clerk step)
-meets tables id clerk Begin damage = damage
-meets tables id clerk _ damage = damage

@@ -1,7 +1,6 @@
 use Rattle.std.proofs.Common.{◌∙◌, Bool, Ok, [], ap, refl, subst, sym, true}
 use Rattle.office_machine.specs.Step.{cabinet_of}
 use Rattle.office_machine.specs.declared.refusal.Refusal.TheVariants.{UnknownIntersection}
-use Rattle.office_tables_decisions.proofs.ReadLemmas.{handed_told, told_on}
 use Rattle.office_tables_decisions.proofs.Decisions.{handed_decides}
 use Rattle.office_desk.specs.Recording.{TellsIntersection}
 use Rattle.office_desk.specs.declared.recording.Taken.TheVariants.{Refused}
@@ -15,11 +14,6 @@ returns-then-not-branch-clause-decides g c =
     record_decides _ _ asked (Refused UnknownIntersection) [] [] _ refl c.from_refusal.ensures.reply c.from_refusal.ensures.no_changes
     (λ honest. takes_unknown _ [] asked (about_tells _ _ _ _ _ c.cabinet_of.ensures gone (c.in_ok-is_known.ensures.tells honest)))
     (within_unknown [] asked (rw c.cabinet_of.ensures at (c.is_known.ensures.asked (c.in_ok-is_known.was ∙ ap (λ (b : Bool). Ok b) gone))))
-
-pub returns-in_err-is_known-clause-reads : goal.returns-in_err-is_known-clause-reads
-returns-in_err-is_known-clause-reads g c =
-    told_on _ _ _ _ c.from_residual.result _ _ c.is_known.ensures.reads c.in_err-is_known.ensures.fault
-    (handed_told _ _ c.in_err-is_known.field-0.0 c.in_err-is_known.was c.from_residual.ensures.1)
 
 pub take_known-requires : goal.take_known-requires
 take_known-requires g c = λ honest.

@@ -1,12 +1,7 @@
-use Rattle.std.proofs.Common.{◌∙◌, true, refl, subst, sym}
+use Rattle.std.proofs.Common.{◌∙◌, subst, sym}
 use Rattle.office_desk.specs.Recording.{TellsIntersection}
 use Rattle.office_desk.proofs.Recorded.{known_read, row_stands}
 use Rattle.office_desk.proofs.recording.is_known.Goals as goal
-
-pub returns-in_default-clause-tells : goal.returns-in_default-clause-tells
-returns-in_default-clause-tells g c = λ honest.
-    subst (λ about. TellsIntersection (g.S.Shelf.content c.args.shelf.now) about true) (sym c.in_default.is)
-    (record { known = λ office stands. refl; told = refl })
 
 pub returns-clause-tells : goal.returns-clause-tells
 returns-clause-tells g c = λ honest.

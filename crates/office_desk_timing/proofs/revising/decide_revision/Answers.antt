@@ -1,6 +1,6 @@
 use Rattle.std.proofs.Common.{subst, sym, true≢false, ◌∙◌}
 use Rattle.draft_core.specs.declared.timing.Reach.TheVariants.{Plan}
-use Rattle.office_desk_timing.proofs.Revisions.{edit_decided, handed_edit, idle_edit, unknown_edit}
+use Rattle.office_desk_timing.proofs.Revisions.{edit_decided, idle_edit, unknown_edit}
 use Rattle.office_desk_timing.proofs.Transactions.{IsFound}
 use Rattle.office_desk_timing.proofs.revising.decide_revision.Goals as goal
 
@@ -10,10 +10,6 @@ returns-in_default-clause-decides g c =
     rw (c.from_refusal.ensures.reply, c.from_refusal.ensures.no_changes)
     (unknown_edit _ tables c.args.id c.args.clerk.now c.args.edit.now
     (λ honest. subst (IsFound Plan tables c.args.id) c.in_default.is (c.in_ok-found.ensures.found honest)))
-
-pub returns-in_err-found-clause-decides : goal.returns-in_err-found-clause-decides
-returns-in_err-found-clause-decides g c =
-    handed_edit _ _ _ _ _ _ _ c.from_residual.ensures.1 c.in_err-found.ensures.found
 
 pub returns-then-asks_nothing-clause-decides : goal.returns-then-asks_nothing-clause-decides
 returns-then-asks_nothing-clause-decides g c =

@@ -1,17 +1,8 @@
 use Rattle.std.proofs.Common.{Option, None, Some, subst}
 use Rattle.draft_core.specs.declared.timing.Reach.{Reach}
-use Rattle.office_tables_decisions.specs.Damage.{HasDamageIn}
 use Rattle.office_desk_timing.specs.declared.reading.Found.{Found}
-use Rattle.office_tables_decisions.proofs.Decisions.{handed_decides}
-use Rattle.office_desk_timing.proofs.Transactions.{IsFound, absent_decides, meets, transact_decides}
+use Rattle.office_desk_timing.proofs.Transactions.{IsFound, absent_decides, transact_decides}
 use Rattle.office_desk_timing.proofs.transacting.transact.Goals as goal
-
-pub returns-in_err-found-clause-decides : goal.returns-in_err-found-clause-decides
-returns-in_err-found-clause-decides g c =
-    handed_decides _ _ _ _ _ c.from_residual.ensures.1
-    (λ damaged honest. meets _ _ _ c.args.step.now (subst
-    (λ (r : Reach). HasDamageIn r (g.S.Shelf.content c.args.shelf.now) c.args.id) c.reach.ensures
-    (c.in_err-found.ensures.found damaged honest)))
 
 pub returns-in_default-clause-decides : goal.returns-in_default-clause-decides
 returns-in_default-clause-decides g c =
