@@ -1,5 +1,5 @@
 -- What an edit of a plan is answered, on what was found, is a run of its steps, all of them or none.
-use Rattle.std.proofs.Common.{◌≡◌, ◌≢◌, ◌+◌, ◌≤◌, ℕ, List, [], Option, Some, None, Result, Ok, Err, refl, sym, subst, ◌∙◌, inl, inr, arith}
+use Rattle.std.proofs.Common.{◌≡◌, ◌≢◌, ◌≤◌, ℕ, List, [], Option, Some, None, Result, Ok, Err, refl, sym, subst, ◌∙◌, inl, inr, arith}
 use Rattle.std.proofs.Math.Path.{subst₂}
 use Rattle.std.specs.Prelude.{IfOk, OnErr}
 use Rattle.std.specs.FinMap.{get}
@@ -24,12 +24,6 @@ use Rattle.office_desk_timing.proofs.{AddedRows.move_news, Keeps.side_sound, Sho
 use Rattle.office_desk_timing.proofs.Planned.{asks_idle, changes_counted, changes_in_order, edits_make, idle_asks, settled_make}
 use Rattle.office_desk_timing.proofs.Transactions.{FollowsLine, IsFound, draft_written, goes, listed_many, no_more, none_written, not_damaged, refused_line, rows_of_move, timing_written}
 use Rattle.office_desk_timing.proofs.Turns.{all_are, lines_keep, revision_within}
-
-one_and_none : (n : ℕ) → n ≡ 0 → 1 + n ≡ 1
-one_and_none n none = omega (arith, none)
-
-none_and : (n m : ℕ) → n ≡ m → 0 + n ≡ m
-none_and n m same = omega (arith, same)
 
 module _ (is_honest : Type 0) (tables : Content) (id : ℕ) (clerk : List ℕ) (edit : PlanEdit) where
   -- a reply for which no row is written
@@ -69,17 +63,16 @@ module _ (is_honest : Type 0) (tables : Content) (id : ℕ) (clerk : List ℕ) (
         let to = settled_make stands plans in (
           to.found,
           to.told,
-          one_and_none _ (none_written table.Intersection refl refl id move.changes),
-          none_and _ _ (timing_written id move.changes ∙ count.0 ∙ changes_counted to),
-          none_and _ _ (draft_written id move.changes ∙ count.1
-              ∙ sym (listed_many tables id found.timing.delta lists.1.1)),
+          omega (arith, none_written table.Intersection refl refl id move.changes),
+          omega (arith, timing_written id move.changes ∙ count.0 ∙ changes_counted to),
+          omega (arith, draft_written id move.changes ∙ count.1, listed_many tables id found.timing.delta lists.1.1),
         )
     edit_writes stands lists move _ count =
         let to = edits_make stands plans in (
           to.found,
           to.told,
-          one_and_none _ (none_written table.Intersection refl refl id move.changes),
-          none_and _ _ (timing_written id move.changes ∙ count.0),
+          omega (arith, none_written table.Intersection refl refl id move.changes),
+          omega (arith, timing_written id move.changes ∙ count.0),
           no_more _ _ _ (draft_written id move.changes)
               (subst (λ n. draft_writes move.changes ≤ n) (changes_counted to) count.1),
         )

@@ -15,7 +15,6 @@ use Rattle.office_desk_timing.specs.{Decisions.row_shown, Decisions.IsVerdictOf,
 use Rattle.office_tables_decisions.specs.StandFor.{StandForSound, row_of}
 use Rattle.office_machine.specs.{Office.Office, Office.Intersection, Office.IsSoundIntersection, Office.side_of, Step.answered, Step.shown, Step.state_shown, Step.draft_shown, Step.timing_shown, declared.reply.Reply.Reply}
 use Rattle.office_machine.specs.declared.command.Command.TheVariants as command
-use Rattle.draft_core.specs.declared.refusal.DraftRefusal.TheVariants as draft
 use Rattle.office_machine.specs.declared.reply.Reply.TheVariants as reply
 use Rattle.office_desk_timing.proofs.{Stands.row_read, ReadBack.committed_read, TimingCount.committed_counted}
 
