@@ -71,7 +71,7 @@ abbrev pub WritesRows : DbState → (delta edits settled : List Change) → List
 WritesRows Normal delta edits settled written = (timing_writes written ≡ length settled) × (draft_writes written ≡ length delta)
 WritesRows state delta edits settled written = (timing_writes written ≡ 0) × (draft_writes written ≤ length edits)
 
--- a revision stores as draft rows only its edits, adds only rows that are new, and writes no more rows than it has to
+-- a revision stores as draft rows only its edits, adds only rows that are new, and writes as many rows as `WritesRows` says
 pub record RevisionWrites (timing : Timing) (edits settled : List Change) (move : Move) : Type 0 where
   pub news : AreInOrder timing.delta → AreInOrder settled → AreNew timing.committed timing.delta move.changes
   pub drafts : AreAmong (drafted_in move.changes) edits

@@ -33,7 +33,7 @@ ReliesOn step.Check side = violations_of side.committed ≡ []
 ReliesOn step.Commit side = violations_of side.committed ≡ []
 ReliesOn _ side = Unit {0}
 
--- ---- what it refuses, whichever timing side is stood for, or none
+-- ---- why it is refused: also where what was read represents no timing side
 
 -- a step that the test of state and owner refuses is refused for that reason, never for want of memory; a step that passes the test
 -- is refused, if at all, for a later reason
@@ -81,12 +81,12 @@ abbrev pub asked_changes : Step → List Change
 asked_changes (step.Edit changes) = changes
 asked_changes _ = []
 
--- the most timing rows that a step writes, of a draft with so many rows
+-- the most timing rows that a step writes where so many draft rows are stored
 abbrev pub most_committed : Step → ℕ → ℕ
 most_committed step.Commit rows = rows
 most_committed _ rows = 0
 
--- the most draft rows that a step writes, of a draft with so many rows
+-- the most draft rows that a step writes where so many are stored
 abbrev pub most_drafted : Step → ℕ → ℕ
 most_drafted (step.Edit changes) rows = length changes
 most_drafted step.Commit rows = rows
@@ -101,8 +101,9 @@ pub record StepWrites (step : Step) (timing : Timing) (move : Move) : Type 0 whe
   pub committed : timing_writes move.changes ≤ most_committed step (length timing.delta)
   pub drafted : draft_writes move.changes ≤ most_drafted step (length timing.delta)
 
--- A STEP IS TAKEN. The decision follows the step's line of the table, whatever the timing side of which
--- the step read a part, and whichever draft rows represent that side's draft.
+-- A STEP IS TAKEN. The decision follows the step's line of the table, whatever the timing side that was
+-- read in part (for a check or a commit, one whose committed set breaks no rule), and whichever draft
+-- rows represent that side's draft.
 pub record Takes (step : Step) (timing : Timing) (clerk : List ℕ)
     (result : Result Move DraftRefusal) : Type 0 where
   pub line : (rows : RowsByKey) (side : TimingSide) → Stands (reach_of step) timing rows side

@@ -1,5 +1,5 @@
-//! Records kept in trees, each under its place: one function finds, puts, removes, lists or copies
-//! records of any kind.
+//! Records kept in trees, each under its place: a function each to find, put, remove and list
+//! records and to copy a tree, the same for every kind of record.
 
 ghost use Rattle.std.specs.Prelude.{◌≡◌, OnOk, IfOk, IfSome, map};
 ghost use Rattle.std.specs.FinMap as finite;

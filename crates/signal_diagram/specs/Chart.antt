@@ -48,12 +48,12 @@ longest seconds lanes = fold (λ most shown. max most (end_of 0 shown.bars)) sec
 
 -- ---- where all rings change phase
 
--- a ring changes phase: one of its phases ends at a second, and one begins at another
+-- a ring changes phase: one of its phases ends at second `ends`, and one begins at second `begins`
 abbrev pub changes : ℕ → ℕ → RingLane → Bool
 changes ends begins shown =
     list_any (λ bar. bar.to == ends) shown.bars && list_any (λ bar. bar.from == begins) shown.bars
 
--- each ring has a phase that ends at one second, and a phase that begins at another; without a ring nothing changes
+-- each ring has a phase that ends at second `ends`, and one that begins at second `begins`; without a ring nothing changes
 abbrev pub all_change : ℕ → ℕ → List RingLane → Bool
 all_change ends begins lanes = nat_lt 0 (length lanes) && list_all (changes ends begins) lanes
 
@@ -78,11 +78,11 @@ conflicts_with_lane set begins p shown = list_all (λ bar. not (bar.from == begi
 abbrev pub conflicts_with_all : Rows → ℕ → ℕ → List RingLane → Bool
 conflicts_with_all set begins p lanes = list_all (conflicts_with_lane set begins p) lanes
 
--- no phase of a lane that ends at a second may time together with one that begins at another
+-- no phase of a lane that ends at second `ends` may time together with one that begins at second `begins`
 abbrev pub lane_conflicts : Rows → ℕ → ℕ → List RingLane → RingLane → Bool
 lane_conflicts set ends begins lanes shown = list_all (λ bar. not (bar.to == ends) || conflicts_with_all set begins bar.phase lanes) shown.bars
 
--- a barrier: all rings change phase, and no phase before it may time together with one after it
+-- a barrier: all rings change phase, and no phase that ends at it may time together with one that begins after it
 abbrev pub is_barrier : Rows → ℕ → List RingLane → ℕ → Bool
 is_barrier set cycle lanes second =
     all_change second (behind cycle second) lanes

@@ -24,7 +24,8 @@ fn begins_at(second: u16, bars: &[Bar]) -> bool
     bars.iter().any(|bar| bar.from == second)
 }
 
-/// Whether a ring changes phase: one of its phases ends at a second, and one begins at another.
+/// Whether a ring changes phase: one of its phases ends at second `ends`, and one begins at second
+/// `begins`.
 fn changes(ends: u16, begins: u16, lane: &Lane) -> bool
     ensures { result ≡ changes ends begins lane.now }
 {
@@ -37,7 +38,7 @@ fn each_changes(ends: u16, begins: u16, lanes: &[Lane]) -> bool
     lanes.iter().all(|lane| changes(ends, begins, lane))
 }
 
-/// Whether each ring has a phase that ends at one second, and a phase that begins at another;
+/// Whether each ring has a phase that ends at second `ends`, and one that begins at second `begins`;
 /// without a ring nothing changes.
 fn all_change(ends: u16, begins: u16, lanes: &[Lane]) -> bool
     ensures { result ≡ all_change ends begins lanes.now }
