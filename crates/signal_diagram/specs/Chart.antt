@@ -82,7 +82,7 @@ conflicts_with_all set begins p lanes = list_all (conflicts_with_lane set begins
 abbrev pub lane_conflicts : Rows → ℕ → ℕ → List RingLane → RingLane → Bool
 lane_conflicts set ends begins lanes shown = list_all (λ bar. not (bar.to == ends) || conflicts_with_all set begins bar.phase lanes) shown.bars
 
--- a barrier: all rings change phase, and no phase that ends at it may time together with one that begins after it
+-- a barrier: all rings change phase, and no phase that ends there may time together with one that begins there (at the end of the cycle: at second 0)
 abbrev pub is_barrier : Rows → ℕ → List RingLane → ℕ → Bool
 is_barrier set cycle lanes second =
     all_change second (behind cycle second) lanes

@@ -100,8 +100,8 @@ fn all_conflict(set: &TimingSet, ends: u16, begins: u16, lanes: &[Lane]) -> bool
         .all(|lane| lane_conflicts(set, ends, begins, lanes, lane))
 }
 
-/// Whether the line at a second is a barrier: all rings change phase there, and no phase before it
-/// may time together with one after it.
+/// Whether the line at a second is a barrier: all rings change phase there, and no phase that ends
+/// there may time together with one that begins there (at the end of the cycle: at second 0).
 fn is_barrier(set: &TimingSet, cycle: u16, lanes: &[Lane], second: u16) -> bool
     ensures { result ≡ is_barrier set.now cycle lanes.now second }
 {
