@@ -172,7 +172,7 @@ def wrong_measurements():
     text = plain((TOP / "docs/MEASUREMENTS.md").read_text())
     took = re.search(r"the trial took (\d+) minutes and the full build (\d+)", readme)
     gate = re.search(r"runs the scripts of\s+`tests/`: (\d+) minutes", readme)
-    first = re.search(r", 4 processors of [^|]*\|[^|]*\| ([\d.]+) min .*\| (\d+) min \|", text)
+    first = re.search(r", 4 processors of [^|]*\|[^|]*\| ([\d.]+) min .*?\| (\d+) min \|", text)
     builds = [f"{float(first[1]):.0f}", first[2]]
     if not took or not gate:
         yield "README.md does not say how long the first build and the gate took"
