@@ -80,7 +80,7 @@ intersection_stored = record {
   is_within = IsIntersectionRow;
 }
 
--- and so are those of intersections
+-- intersections are ordered by the cells of their keys, and equal keys are one place
 pub intersection_laws : AreLaws ranged_cmp intersection_stored
 intersection_laws = record { ordered = last_order; exact = number_exact }
 
@@ -95,7 +95,7 @@ hand_stored = record {
   is_within = IsHand;
 }
 
--- and so are those of parts
+-- parts are ordered by the cells of their keys, and equal keys are one place
 pub hand_laws : AreLaws part_cmp hand_stored
 hand_laws = record { ordered = part_order; exact = slice_cmp-IsAntisymmetric exact_unsigned }
 
@@ -110,7 +110,7 @@ delivery_stored = record {
   is_within = IsDeliveryWithin;
 }
 
--- and so are those of deliveries
+-- deliveries are ordered by the cells of their keys, and equal keys are one place
 pub delivery_laws : AreLaws (λ a b. ordering_then (part_cmp a.0 b.0) (ranged_cmp a.1 b.1)) delivery_stored
 delivery_laws = record {
   ordered = λ a b i. ordering_then (text_order a.0 b.0 i) (last_order a.1 b.1 i);

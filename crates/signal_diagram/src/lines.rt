@@ -38,8 +38,8 @@ fn each_changes(ends: u16, begins: u16, lanes: &[Lane]) -> bool
     lanes.iter().all(|lane| changes(ends, begins, lane))
 }
 
-/// Whether each ring has a phase that ends at second `ends`, and one that begins at second `begins`;
-/// without a ring nothing changes.
+/// Whether each ring has a phase that ends at second `ends`, and one that begins at second
+/// `begins`; without a ring nothing changes.
 fn all_change(ends: u16, begins: u16, lanes: &[Lane]) -> bool
     ensures { result ≡ all_change ends begins lanes.now }
 {

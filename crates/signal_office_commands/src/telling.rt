@@ -20,7 +20,8 @@ const NOT_COMMITTED: &str =
 /// refused.
 const COMMITTED: &str = "no violations\ncommitted\n";
 
-/// As `COMMITTED`, if warnings were asked for.
+/// What is printed of a commit if warnings were asked for, and the set that runs could not be read,
+/// or memory for the rest was refused.
 const UNREAD_WARNINGS: &str = "no violations\ncommitted\nits warnings could not be read\n";
 
 /// The line on how many records of an import were new, and how many were there already:

@@ -63,8 +63,7 @@ fn unpadded_file(alloc: Global, bytes: &[u8]) -> Result<Vec<u8>, NoMemory>
 }
 
 /// A CSV file with the records of another, each without its padding, after a byte order mark. A
-/// record whose fields are all empty is left out, as an empty line is. A good file still says the
-/// same.
+/// record whose fields are all empty is left out, as an empty line is. What a good file says stays.
 pub fn unpadded_csv(alloc: Global, bytes: &[u8]) -> Result<Vec<u8>, NoMemory>
     ensures good_plan { IfOk result (λ text. (changes : List Change) →
         changes_of bytes.now ≡ Ok changes → changes_of text.items ≡ Ok changes) }
