@@ -1,7 +1,6 @@
 pub mod Overlaid
 pub mod Written
-pub mod Pushed
-pub mod OnlyChanges
+pub mod Drafts
 pub mod News
 pub mod Lines
 pub mod Makes

@@ -1,17 +1,11 @@
 -- What changes leave of a set, key by key, and the draft as the committed set with its rows over it.
 use Rattle.std.proofs.Common.{◌≡◌, ◌+◌, Bool, true, false, cond, List, [], ◌∷◌, map, Option, Some, None, refl, ap, sym, ◌∙◌, arith, add-one}
-use Rattle.std.specs.declared.cmp.Ordering.TheVariants.{Less, Equal, Greater}
-use Rattle.std.specs.{List.Contains, Ordering.is_eq, FinMap.get, FinMap.get-insert, FinMap.get-remove, FinMap.same_map}
-use Rattle.signal_records.specs.declared.{key.Key.Key, record.Row.Row, record.Change.Change}
-use Rattle.signal_records.specs.declared.record.Change.TheVariants.{Put, Remove}
-use Rattle.signal_records.specs.{Key.key_cmp, KeyOrder.key_total, KeyOrder.key_exact, Row.key_of}
-use Rattle.signal_records.specs.TimingSet.{Rows, after_change, after_changes}
+use Rattle.std.specs.{declared.cmp.Ordering.TheVariants.Less, declared.cmp.Ordering.TheVariants.Equal, declared.cmp.Ordering.TheVariants.Greater, List.Contains, Ordering.is_eq, FinMap.get, FinMap.get-insert, FinMap.get-remove, FinMap.same_map}
+use Rattle.signal_records.specs.{declared.key.Key.Key, declared.record.Row.Row, declared.record.Change.Change, declared.record.Change.TheVariants.Put, declared.record.Change.TheVariants.Remove, Key.key_cmp, KeyOrder.key_total, KeyOrder.key_exact, Row.key_of, TimingSet.Rows, TimingSet.after_change, TimingSet.after_changes, ChangedRows.changed_key}
 use Rattle.signal_rules.specs.{declared.violation.Violation.Violation, Difference.DiffersAtMost, Violations.violations_of}
-use Rattle.draft_core.specs.{declared.timing.Timing.Timing, declared.timing.Reach.Reach, Transaction.TimingSide, Transaction.Draft}
+use Rattle.draft_core.specs.{declared.timing.Timing.Timing, declared.timing.Reach.Reach, Transaction.TimingSide, Transaction.Draft, Revising.base_from, Revising.base_of}
 use Rattle.draft_core.specs.DraftRows.{Said, silent, leaves, removes, RowsByKey, RowStands, Stands, said_by, said_at, later_of, row_at, overlaid_row}
-use Rattle.draft_core.specs.Revising.{base_from, base_of}
 use Rattle.draft_core.specs.declared.timing.Reach.TheVariants as reach
-use Rattle.signal_records.specs.ChangedRows.{changed_key}
 
 over : (b : Bool) (said : Said) (committed : Option Row) → cond b
     (overlaid_row committed said) committed ≡ overlaid_row committed (cond b said silent)
@@ -73,19 +67,16 @@ module _ {timing : Timing} {rows : RowsByKey} {side : TimingSide}
   pub draft_is : after_changes timing.committed timing.delta ≡ draft.set
   draft_is = base_is stands ∙ ap (base_from side.committed) held
 
-  -- what is found in the committed set with the draft rows is the draft's, where the committed set
-  -- has no violation
-  pub draft_violations : (found : List Violation) (changes : List Change)
-      → violations_of side.committed ≡ [] → changes ≡ timing.delta
-      → (violations_of timing.committed ≡ [] → found
-      ≡ violations_of (after_changes timing.committed changes))
-      → found ≡ violations_of draft.set
-  draft_violations found changes sound same finds =
-      finds (ap violations_of stands.read.1 ∙ sound)
-      ∙ ap (λ list. violations_of (after_changes timing.committed list)) same
-      ∙ ap violations_of draft_is
+-- what is found in the committed set with changes is what breaks rules in the set that they make, where the committed
+-- set has no violation
+pub found_in : {timing : Timing} {rows : RowsByKey} {side : TimingSide} → Stands reach.Plan timing rows side
+    → (found : List Violation) (changes : List Change) (set : Rows) → violations_of side.committed ≡ []
+    → (violations_of timing.committed ≡ [] → found ≡ violations_of (after_changes timing.committed changes))
+    → after_changes timing.committed changes ≡ set → found ≡ violations_of set
+found_in stands found changes set sound finds same =
+    finds (ap violations_of stands.read.1 ∙ sound) ∙ ap violations_of same
 
-contains_later : (k key : Key) (keys : List Key) → Contains keys key → Contains (k ∷ keys) key
+pub contains_later : (k key : Key) (keys : List Key) → Contains keys key → Contains (k ∷ keys) key
 contains_later k key keys h = (h.0 + 1, omega (arith, h.1), rw add-one h.2)
 
 -- changes say nothing of a key that they do not name

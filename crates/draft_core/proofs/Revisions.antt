@@ -3,14 +3,12 @@ use Rattle.std.proofs.Common.{◌≡◌, ℕ, ◌==◌, Bool, cond, true, false,
 use Rattle.std.proofs.lemmas.Slice.Eq.{bytes_eq-Decides}
 use Rattle.std.specs.{Option.option_map, Str.bytes_eq}
 use Rattle.signal_rules.specs.{Violations.violations_of, declared.violation.Violation.Violation}
-use Rattle.signal_records.specs.{TimingSet.Rows, TimingSet.after_changes, declared.record.Change.Change}
-use Rattle.signal_records.specs.declared.state.{Holding.Holding, Holding.TheVariants.Begun, Holding.TheVariants.Kept, Stage.Stage}
-use Rattle.signal_records.specs.declared.state.Stage.TheVariants.{Transaction, Verify, Done}
+use Rattle.signal_records.specs.{TimingSet.Rows, TimingSet.after_changes, declared.record.Change.Change, declared.state.Holding.Holding, declared.state.Holding.TheVariants.Begun, declared.state.Holding.TheVariants.Kept, declared.state.Stage.Stage, declared.state.Stage.TheVariants.Transaction, declared.state.Stage.TheVariants.Verify, declared.state.Stage.TheVariants.Done}
 use Rattle.draft_core.specs.{declared.step.Step.Step, declared.refusal.DraftRefusal.DraftRefusal, declared.timing.Timing.Timing, DraftRows.RowsByKey, DraftRows.Stands, Moves.next_holder, declared.refusal.DraftRefusal.TheVariants.NotOwner}
-use Rattle.draft_core.specs.declared.timing.Reach.TheVariants as reach
-use Rattle.draft_core.specs.declared.step.Step.TheVariants as step
 use Rattle.draft_core.specs.Revising.{and_then, base_of, committing, lines_of, opening_steps, revision_steps, take_up}
 use Rattle.draft_core.specs.Transaction.{TimingSide, Draft, committed_with, holder_of, with_draft}
+use Rattle.draft_core.specs.declared.timing.Reach.TheVariants as reach
+use Rattle.draft_core.specs.declared.step.Step.TheVariants as step
 
 -- nothing comes after the last step
 and_then-end : (clerk : List ℕ) (line : Result TimingSide DraftRefusal)
@@ -91,22 +89,6 @@ pub takes_up : {timing : Timing} {rows : RowsByKey} {side : TimingSide}
 takes_up {side = side} stands clerk holding e =
     taken side.revision side.committed clerk side.draft holding
     (ap (λ h. take_up h clerk) (sym stands.same_holder) ∙ sym e)
-
--- ---- which of the two it is, and what is written
-
--- what is found in the committed set with the changes that settle it is what the edits break
-pub found_after : {timing : Timing} {rows : RowsByKey} {side : TimingSide}
-    → Stands reach.Plan timing rows side → (edits settled : List Change)
-    → violations_of side.committed ≡ []
-    → after_changes (base_of side) edits ≡ after_changes side.committed settled
-    → (found : List Violation)
-    → (violations_of timing.committed ≡ [] → found
-    ≡ violations_of (after_changes timing.committed settled))
-    → found ≡ violations_of (after_changes (base_of side) edits)
-found_after stands edits settled sound same found finds =
-    finds (ap violations_of stands.read.1 ∙ sound)
-    ∙ ap (λ set. violations_of (after_changes set settled)) stands.read.1
-    ∙ ap violations_of (sym same)
 
 -- a draft that breaks rules is not committed
 pub breaks_stay : (commit : Bool) (found : List Violation) → (length found == 0) ≡ false

@@ -2,10 +2,8 @@
 use Rattle.std.proofs.Common.{◌≡◌, ℕ, ◌+◌, ◌==◌, Bool, cond, not, true, false, List, [], ◌∷◌, length, Option, Some, None, Result, Ok, Err, refl, sym}
 use Rattle.std.specs.Str.{bytes_eq}
 use Rattle.signal_rules.specs.{Violations.violations_of, declared.violation.Violation.Violation}
-use Rattle.signal_records.specs.{declared.revision.TheConstants.LAST_REVISION, declared.state.Stage.Stage}
-use Rattle.signal_records.specs.declared.state.Stage.TheVariants.{Done}
-use Rattle.draft_core.specs.declared.step.Step.TheVariants.{Commit}
-use Rattle.draft_core.specs.declared.refusal.DraftRefusal.{DraftRefusal}
+use Rattle.signal_records.specs.declared.{revision.TheConstants.LAST_REVISION, state.Stage.Stage, state.Stage.TheVariants.Done}
+use Rattle.draft_core.specs.declared.{step.Step.TheVariants.Commit, refusal.DraftRefusal.DraftRefusal}
 use Rattle.draft_core.specs.declared.refusal.DraftRefusal.TheVariants.{NotDone, NotOwner, RevisionFull, VerifyFailed}
 use Rattle.draft_core.specs.Transaction.{TimingSide, Draft, holder_of, is_stage, owned, committed_with, table_line}
 

@@ -1,18 +1,8 @@
 -- The form in which a draft is stored: its changed rows over the committed ones.
 use Rattle.std.specs.Prelude.{◌≡◌, List, [], ◌∷◌, cond, Option, Some, None}
-use Rattle.std.specs.Option.{option_map}
-use Rattle.std.specs.FinMap.{get}
-use Rattle.std.specs.Ordering.{eq_by_cmp}
-use Rattle.signal_records.specs.Key.{key_cmp}
-use Rattle.signal_records.specs.TimingSet.{Rows}
-use Rattle.signal_records.specs.declared.key.Key.{Key}
-use Rattle.signal_records.specs.declared.record.Row.{Row}
-use Rattle.signal_records.specs.declared.record.Change.{Change}
-use Rattle.signal_records.specs.declared.record.Change.TheVariants.{Put, Remove}
-use Rattle.signal_records.specs.ChangedRows.{changed_key}
-use Rattle.draft_core.specs.Transaction.{Draft, TimingSide, holder_of}
-use Rattle.draft_core.specs.declared.timing.Timing.{Timing}
-use Rattle.draft_core.specs.declared.timing.Reach.{Reach}
+use Rattle.std.specs.{Option.option_map, FinMap.get, Ordering.eq_by_cmp}
+use Rattle.signal_records.specs.{Key.key_cmp, TimingSet.Rows, declared.key.Key.Key, declared.record.Row.Row, declared.record.Change.Change, declared.record.Change.TheVariants.Put, declared.record.Change.TheVariants.Remove, ChangedRows.changed_key}
+use Rattle.draft_core.specs.{Transaction.Draft, Transaction.TimingSide, Transaction.holder_of, declared.timing.Timing.Timing, declared.timing.Reach.Reach}
 use Rattle.draft_core.specs.declared.timing.Reach.TheVariants as reach
 
 -- what draft rows say of a key: nothing, that a row stands there, or that none does

@@ -1,25 +1,9 @@
 -- What a list of changes makes of the rows, and what a move makes of a timing side.
 use Rattle.std.specs.Prelude.{◌≡◌, ◌⊎◌, ℕ, ◌+◌, List, [], ◌∷◌, cond, Option, Some, None, Result, Ok, Err}
-use Rattle.std.specs.Option.{option_map}
-use Rattle.std.specs.FinMap.{get}
-use Rattle.std.specs.Ordering.{eq_by_cmp}
-use Rattle.signal_records.specs.Key.{key_cmp}
-use Rattle.signal_records.specs.declared.key.Key.{Key}
-use Rattle.signal_records.specs.declared.record.Row.{Row}
-use Rattle.signal_records.specs.declared.record.Change.{Change}
-use Rattle.signal_records.specs.declared.record.Change.TheVariants.{Put}
-use Rattle.signal_records.specs.declared.state.DbState.{DbState}
-use Rattle.signal_records.specs.declared.state.DbState.TheVariants.{Normal, Transaction as InTransaction}
-use Rattle.signal_records.specs.declared.state.Stage.TheVariants.{Transaction}
-use Rattle.signal_records.specs.declared.state.Verdict.{Verdict}
-use Rattle.signal_records.specs.declared.state.Holder.{Holder}
-use Rattle.signal_records.specs.declared.state.Holding.{Holding}
-use Rattle.signal_records.specs.declared.state.Holding.TheVariants.{Begun, Kept, Dropped}
-use Rattle.draft_core.specs.declared.timing.Move.{Move}
-use Rattle.draft_core.specs.declared.timing.TimingChange.{TimingChange}
+use Rattle.std.specs.{Option.option_map, FinMap.get, Ordering.eq_by_cmp}
+use Rattle.signal_records.specs.{Key.key_cmp, declared.key.Key.Key, declared.record.Row.Row, declared.record.Change.Change, declared.record.Change.TheVariants.Put, declared.state.DbState.DbState, declared.state.DbState.TheVariants.Normal, declared.state.DbState.TheVariants.Transaction as InTransaction, declared.state.Stage.TheVariants.Transaction, declared.state.Verdict.Verdict, declared.state.Holder.Holder, declared.state.Holding.Holding, declared.state.Holding.TheVariants.Begun, declared.state.Holding.TheVariants.Kept, declared.state.Holding.TheVariants.Dropped}
+use Rattle.draft_core.specs.declared.{timing.Move.Move, timing.TimingChange.TimingChange, refusal.DraftRefusal.DraftRefusal, refusal.DraftRefusal.TheVariants.NoMemory}
 use Rattle.draft_core.specs.declared.timing.TimingChange.TheVariants.{CommittedNew, Committed, DraftedNew, Drafted, DraftGone, DraftDropped}
-use Rattle.draft_core.specs.declared.refusal.DraftRefusal.{DraftRefusal}
-use Rattle.draft_core.specs.declared.refusal.DraftRefusal.TheVariants.{NoMemory}
 use Rattle.draft_core.specs.DraftRows.{HaveOnlyChanges, Said, silent, RowsByKey, RowStands, later_of, overlaid_row, said_at}
 use Rattle.draft_core.specs.Transaction.{TimingSide, holder_of, in_stage, state_of, verdict_of}
 
@@ -29,10 +13,7 @@ use Rattle.draft_core.specs.Transaction.{TimingSide, holder_of, in_stage, state_
 abbrev pub committed_by : TimingChange → Key → Option Row → Option Row
 committed_by (CommittedNew row) key committed = overlaid_row committed (said_at (Put row) key)
 committed_by (Committed change) key committed = overlaid_row committed (said_at change key)
-committed_by (DraftedNew change) key committed = committed
-committed_by (Drafted change) key committed = committed
-committed_by (DraftGone gone) key committed = committed
-committed_by (DraftDropped rows) key committed = committed
+committed_by _ key committed = committed
 
 -- the committed row at a key after changes
 abbrev pub committed_after : List TimingChange → Key → Option Row → Option Row
@@ -42,12 +23,11 @@ committed_after (change ∷ changes) key committed =
 
 -- what the draft rows say of a key after one change
 abbrev pub said_after : TimingChange → Key → Said → Said
-said_after (CommittedNew row) key said = said
-said_after (Committed change) key said = said
 said_after (DraftedNew change) key said = later_of (said_at change key) said
 said_after (Drafted change) key said = later_of (said_at change key) said
 said_after (DraftGone gone) key said = cond (eq_by_cmp key_cmp key gone) silent said
 said_after (DraftDropped rows) key said = silent
+said_after _ key said = said
 
 -- what the draft rows say of a key after changes
 abbrev pub row_after : List TimingChange → Key → Said → Said
@@ -58,10 +38,7 @@ row_after (change ∷ changes) key said = row_after changes key (said_after chan
 abbrev pub timing_write : TimingChange → ℕ
 timing_write (CommittedNew row) = 1
 timing_write (Committed change) = 1
-timing_write (DraftedNew change) = 0
-timing_write (Drafted change) = 0
-timing_write (DraftGone gone) = 0
-timing_write (DraftDropped rows) = 0
+timing_write _ = 0
 
 -- how many timing rows changes write
 abbrev pub timing_writes : List TimingChange → ℕ
@@ -70,12 +47,11 @@ timing_writes (change ∷ changes) = timing_writes changes + timing_write change
 
 -- how many draft rows a change writes; to drop them all writes each
 abbrev pub draft_write : TimingChange → ℕ
-draft_write (CommittedNew row) = 0
-draft_write (Committed change) = 0
 draft_write (DraftedNew change) = 1
 draft_write (Drafted change) = 1
 draft_write (DraftGone gone) = 1
 draft_write (DraftDropped rows) = rows
+draft_write _ = 0
 
 -- how many draft rows changes write
 abbrev pub draft_writes : List TimingChange → ℕ
@@ -85,12 +61,9 @@ draft_writes (change ∷ changes) = draft_writes changes + draft_write change
 -- the changes that are stored as draft rows, in their order
 abbrev pub drafted_in : List TimingChange → List Change
 drafted_in [] = []
-drafted_in (CommittedNew row ∷ changes) = drafted_in changes
-drafted_in (Committed change ∷ changes) = drafted_in changes
 drafted_in (DraftedNew change ∷ changes) = change ∷ drafted_in changes
 drafted_in (Drafted change ∷ changes) = change ∷ drafted_in changes
-drafted_in (DraftGone gone ∷ changes) = drafted_in changes
-drafted_in (DraftDropped rows ∷ changes) = drafted_in changes
+drafted_in (_ ∷ changes) = drafted_in changes
 
 -- ---- a move, and the timing side that it makes
 

@@ -1,22 +1,10 @@
 -- A row that a step of the transaction adds is new.
 use Rattle.std.specs.Prelude.{◌≡◌, List, [], ◌∷◌, map, Option, None}
-use Rattle.std.specs.FinMap.{get}
-use Rattle.std.specs.List.{AllByRecursion}
-use Rattle.std.specs.List.Sorted.{IsStrictlySortedBy}
-use Rattle.signal_records.specs.Key.{key_cmp}
-use Rattle.signal_records.specs.Row.{key_of}
-use Rattle.signal_records.specs.TimingSet.{Rows}
-use Rattle.signal_records.specs.declared.key.Key.{Key}
-use Rattle.signal_records.specs.declared.record.Row.{Row}
-use Rattle.signal_records.specs.declared.record.Change.{Change}
-use Rattle.draft_core.specs.declared.timing.Reach.{Reach}
-use Rattle.draft_core.specs.declared.timing.Reach.TheVariants as reach
-use Rattle.draft_core.specs.declared.timing.Timing.{Timing}
-use Rattle.draft_core.specs.declared.timing.TimingChange.{TimingChange}
+use Rattle.std.specs.{FinMap.get, List.AllByRecursion, List.Sorted.IsStrictlySortedBy}
+use Rattle.signal_records.specs.{Key.key_cmp, Row.key_of, TimingSet.Rows, declared.key.Key.Key, declared.record.Row.Row, declared.record.Change.Change, ChangedRows.changed_key}
+use Rattle.draft_core.specs.{declared.timing.Reach.Reach, declared.timing.Timing.Timing, declared.timing.TimingChange.TimingChange, DraftRows.Said, DraftRows.silent, DraftRows.row_at, Moves.committed_by, Moves.said_after}
 use Rattle.draft_core.specs.declared.timing.TimingChange.TheVariants.{CommittedNew, Committed, DraftedNew, Drafted, DraftGone, DraftDropped}
-use Rattle.draft_core.specs.DraftRows.{Said, silent, row_at}
-use Rattle.signal_records.specs.ChangedRows.{changed_key}
-use Rattle.draft_core.specs.Moves.{committed_by, said_after}
+use Rattle.draft_core.specs.declared.timing.Reach.TheVariants as reach
 
 -- draft rows stand in ascending order of their keys, at most one for each key
 abbrev pub AreInOrder : List Change → Type 0
@@ -26,11 +14,8 @@ AreInOrder changes = IsStrictlySortedBy key_cmp (map changed_key changes)
 -- draft row, the draft rows say nothing of the key (`said`).
 abbrev pub IsNewAt : TimingChange → Key → Option Row → Said → Type 0
 IsNewAt (CommittedNew row) key committed said = key ≡ key_of row → committed ≡ None
-IsNewAt (Committed change) key committed said = Unit {0}
 IsNewAt (DraftedNew change) key committed said = key ≡ changed_key change → said ≡ silent
-IsNewAt (Drafted change) key committed said = Unit {0}
-IsNewAt (DraftGone gone) key committed said = Unit {0}
-IsNewAt (DraftDropped rows) key committed said = Unit {0}
+IsNewAt _ key committed said = Unit {0}
 
 -- under a key, each row that the changes add is new when its turn comes
 abbrev pub AreNewAt : List TimingChange → Key → Option Row → Said → Type 0
@@ -47,17 +32,13 @@ AreNew committed delta changes =
 -- the change adds no row
 abbrev pub AddsNone : TimingChange → Type 0
 AddsNone (CommittedNew row) = ⊥
-AddsNone (Committed change) = Unit {0}
 AddsNone (DraftedNew change) = ⊥
-AddsNone (Drafted change) = Unit {0}
-AddsNone (DraftGone gone) = Unit {0}
-AddsNone (DraftDropped rows) = Unit {0}
+AddsNone _ = Unit {0}
 
 -- ROWS THAT ARE ADDED ARE NEW. A step that reads the plan adds a committed row only where no committed
 -- row stands under its key, and a draft row only where no draft row does, if it read the draft rows in
 -- the order of their keys. Any other step adds none.
 abbrev pub AddsOnlyNew : Reach → Timing → List TimingChange → Type 0
-AddsOnlyNew reach.Row timing changes = AllByRecursion AddsNone changes
-AddsOnlyNew reach.Drafts timing changes = AllByRecursion AddsNone changes
 AddsOnlyNew reach.Plan timing changes =
     AreInOrder timing.delta → AreNew timing.committed timing.delta changes
+AddsOnlyNew _ timing changes = AllByRecursion AddsNone changes

@@ -1,16 +1,10 @@
 -- A clerk revises a plan: the steps of the transaction that take a draft up, edit it, and commit it where that is asked for and it breaks no rule.
 use Rattle.std.specs.Prelude.{◌≡◌, ◌≤◌, ℕ, Bool, true, List, [], ◌∷◌, ◌++◌, length, Option, Some, None, Result, Ok, Err, IfOk, if◌then◌else◌}
 use Rattle.std.specs.Str.{bytes_eq}
-use Rattle.signal_records.specs.TimingSet.{Rows, after_changes}
-use Rattle.signal_records.specs.{declared.record.Change.Change, declared.state.DbState.DbState, declared.state.DbState.TheVariants.Normal, declared.state.Holder.Holder, declared.state.Holding.Holding, declared.state.Stage.Stage}
-use Rattle.signal_records.specs.declared.state.Holding.TheVariants.{Begun, Kept}
-use Rattle.signal_records.specs.declared.state.Stage.TheVariants.{Transaction, Verify, Done}
+use Rattle.signal_records.specs.{TimingSet.Rows, TimingSet.after_changes, declared.record.Change.Change, declared.state.DbState.DbState, declared.state.DbState.TheVariants.Normal, declared.state.Holder.Holder, declared.state.Holding.Holding, declared.state.Stage.Stage, declared.state.Holding.TheVariants.Begun, declared.state.Holding.TheVariants.Kept, declared.state.Stage.TheVariants.Transaction, declared.state.Stage.TheVariants.Verify, declared.state.Stage.TheVariants.Done}
 use Rattle.signal_rules.specs.{Violations.violations_of, declared.violation.Violation.Violation}
-use Rattle.draft_core.specs.{Drafting.AreAmong, declared.refusal.DraftRefusal.DraftRefusal, declared.refusal.DraftRefusal.TheVariants.NotOwner, declared.step.Step.Step, declared.timing.Move.Move, declared.timing.Timing.Timing, declared.timing.TimingChange.TimingChange}
-use Rattle.draft_core.specs.DraftRows.{RowsByKey, Stands}
+use Rattle.draft_core.specs.{Within.AreChangesWithin, declared.refusal.DraftRefusal.DraftRefusal, declared.refusal.DraftRefusal.TheVariants.NotOwner, declared.step.Step.Step, declared.timing.Move.Move, declared.timing.Timing.Timing, declared.timing.TimingChange.TimingChange, DraftRows.RowsByKey, DraftRows.Stands, News.AreInOrder, News.AreNew, Transaction.Draft, Transaction.TimingSide, Transaction.table_line}
 use Rattle.draft_core.specs.Moves.{Follows, draft_writes, drafted_in, timing_writes}
-use Rattle.draft_core.specs.News.{AreInOrder, AreNew}
-use Rattle.draft_core.specs.Transaction.{Draft, TimingSide, table_line}
 use Rattle.draft_core.specs.declared.step.Step.TheVariants as step
 use Rattle.draft_core.specs.declared.timing.Reach.TheVariants as reach
 
@@ -71,10 +65,11 @@ abbrev pub WritesRows : DbState → (delta edits settled : List Change) → List
 WritesRows Normal delta edits settled written = (timing_writes written ≡ length settled) × (draft_writes written ≡ length delta)
 WritesRows state delta edits settled written = (timing_writes written ≡ 0) × (draft_writes written ≤ length edits)
 
--- a revision stores as draft rows only its edits, adds only rows that are new, and writes as many rows as `WritesRows` says
+-- the rows that a revision adds are new, those that it stores as draft rows are within their limits where its edits are,
+-- and it writes as many rows as `WritesRows` says
 pub record RevisionWrites (timing : Timing) (edits settled : List Change) (move : Move) : Type 0 where
   pub news : AreInOrder timing.delta → AreInOrder settled → AreNew timing.committed timing.delta move.changes
-  pub drafts : AreAmong (drafted_in move.changes) edits
+  pub drafts : AreChangesWithin edits → AreChangesWithin (drafted_in move.changes)
   pub rows : WritesRows move.state timing.delta edits settled move.changes
 
 -- A PLAN IS REVISED by edits of what a clerk goes on with, which make of it what `settled` makes of the committed set: the decision follows the lines of the

@@ -1,15 +1,9 @@
 -- When what is committed and drafted is sound, in a version of the rows and the rules.
 use Rattle.std.specs.Prelude.{◌≡◌, List, None, IfSome}
 use Rattle.std.specs.FinMap.{get, empty}
-use Rattle.signal_records.specs.Row.{key_of}
-use Rattle.signal_records.specs.TimingSet.{Rows}
-use Rattle.signal_records.specs.Within.{IsRowWithin, current_limits, version_1_limits}
+use Rattle.signal_records.specs.{Row.key_of, TimingSet.Rows, Within.IsRowWithin, Within.current_limits, Within.version_1_limits, declared.key.Key.Key, declared.limits.Limits.Limits}
 use Rattle.signal_values.specs.Words.{AreWords}
-use Rattle.signal_records.specs.declared.key.Key.{Key}
-use Rattle.signal_records.specs.declared.limits.Limits.{Limits}
-use Rattle.signal_rules.specs.Violations.{violations_of}
-use Rattle.signal_rules.specs.BeforeLead.{violations_before_lead}
-use Rattle.signal_rules.specs.declared.violation.Violation.{Violation}
+use Rattle.signal_rules.specs.{Violations.violations_of, BeforeLead.violations_before_lead, declared.violation.Violation.Violation}
 use Rattle.draft_core.specs.Transaction.{TimingSide, Draft}
 
 -- nothing was committed yet, and there is no draft

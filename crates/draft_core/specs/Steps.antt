@@ -1,22 +1,12 @@
 -- What each step of the transaction promises: its line of the table, how much it reads, what it refuses, and what it writes.
 use Rattle.std.specs.Prelude.{◌≡◌, ◌≤◌, ℕ, List, [], length, Option, Some, None, Result, Err, IfErr, IfOk}
-use Rattle.signal_records.specs.declared.record.Change.{Change}
+use Rattle.signal_records.specs.declared.{record.Change.Change, state.Holder.Holder, state.Stage.TheVariants.Transaction, state.Stage.TheVariants.Verify, state.Stage.TheVariants.Done}
 use Rattle.signal_rules.specs.Violations.{violations_of}
-use Rattle.signal_records.specs.declared.state.Holder.{Holder}
-use Rattle.signal_records.specs.declared.state.Stage.TheVariants.{Transaction, Verify, Done}
-use Rattle.draft_core.specs.declared.step.Step.{Step}
-use Rattle.draft_core.specs.declared.step.Step.TheVariants as step
-use Rattle.draft_core.specs.declared.timing.Timing.{Timing}
-use Rattle.draft_core.specs.declared.timing.Move.{Move}
-use Rattle.draft_core.specs.declared.timing.Reach.{Reach}
-use Rattle.draft_core.specs.declared.timing.Reach.TheVariants as reach
-use Rattle.draft_core.specs.declared.refusal.DraftRefusal.{DraftRefusal}
-use Rattle.draft_core.specs.declared.refusal.DraftRefusal.TheVariants.{NotTransaction, NotVerify, NotDone, VerifyFailed, RevisionFull, NoMemory}
-use Rattle.draft_core.specs.Drafting.{AreAmong}
-use Rattle.draft_core.specs.DraftRows.{RowsByKey, Stands}
+use Rattle.draft_core.specs.{declared.step.Step.Step, declared.timing.Timing.Timing, declared.timing.Move.Move, declared.timing.Reach.Reach, declared.refusal.DraftRefusal.DraftRefusal, Within.AreChangesWithin, DraftRows.RowsByKey, DraftRows.Stands, News.AddsOnlyNew, Transaction.TimingSide, Transaction.refused_by, Transaction.table_line}
+use Rattle.draft_core.specs.declared.refusal.DraftRefusal.TheVariants.{NotNormal, NotTransaction, NotVerify, NotDone, VerifyFailed, RevisionFull, NoMemory}
 use Rattle.draft_core.specs.Moves.{Follows, draft_writes, drafted_in, timing_writes}
-use Rattle.draft_core.specs.News.{AddsOnlyNew}
-use Rattle.draft_core.specs.Transaction.{TimingSide, refused_by, refused_if_free, refused_if_held, table_line}
+use Rattle.draft_core.specs.declared.step.Step.TheVariants as step
+use Rattle.draft_core.specs.declared.timing.Reach.TheVariants as reach
 
 -- how much of the timing side a step reads: the edit stores what differs from the committed rows, the
 -- check and the commit judge the draft, the abandon drops its rows
@@ -41,14 +31,6 @@ abbrev pub RefusesFirst : Option DraftRefusal → (DraftRefusal → Type 0) → 
 RefusesFirst (Some why) Later result = result ≡ Err why
 RefusesFirst None Later result = IfErr result Later
 
--- no refusal may come
-abbrev pub Never : DraftRefusal → Type 0
-Never why = ⊥
-
--- the refusal is want of memory
-abbrev pub IsMemory : DraftRefusal → Type 0
-IsMemory why = why ≡ NoMemory
-
 -- the refusal is one of a checked draft whose owner commits it: it breaks rules, the revision is the last, or memory was refused
 abbrev pub IsUnsettled : DraftRefusal → Type 0
 IsUnsettled (VerifyFailed count) = Unit {0}
@@ -58,21 +40,23 @@ IsUnsettled _ = ⊥
 
 -- why a step is refused by the test of state and owner, if it is
 abbrev pub first_refusal : Step → Option Holder → List ℕ → Option DraftRefusal
-first_refusal step.Begin holder clerk = refused_if_held holder
+first_refusal step.Begin None clerk = None
+first_refusal step.Begin (Some holder) clerk = Some NotNormal
 first_refusal (step.Edit changes) holder clerk = refused_by holder Transaction NotTransaction clerk
 first_refusal step.Verify holder clerk = refused_by holder Transaction NotTransaction clerk
 first_refusal step.Check holder clerk = refused_by holder Verify NotVerify clerk
 first_refusal step.Commit holder clerk = refused_by holder Done NotDone clerk
 first_refusal step.Reopen holder clerk = refused_by holder Done NotDone clerk
-first_refusal step.Abandon holder clerk = refused_if_free holder
+first_refusal step.Abandon None clerk = Some NotTransaction
+first_refusal step.Abandon (Some holder) clerk = None
 
 -- what a step may be refused for after the test of state and owner
 abbrev pub IsLater : Step → DraftRefusal → Type 0
-IsLater (step.Edit changes) = IsMemory
-IsLater step.Check = IsMemory
-IsLater step.Commit = IsUnsettled
-IsLater step.Abandon = IsMemory
-IsLater _ = Never
+IsLater step.Commit why = IsUnsettled why
+IsLater (step.Edit changes) why = why ≡ NoMemory
+IsLater step.Check why = why ≡ NoMemory
+IsLater step.Abandon why = why ≡ NoMemory
+IsLater _ why = ⊥
 
 -- ---- what it writes
 
@@ -93,11 +77,11 @@ most_drafted step.Commit rows = rows
 most_drafted step.Abandon rows = rows
 most_drafted _ rows = 0
 
--- the rows that a step adds are new, it stores as draft rows only changes that it asks for, and it writes no more timing rows and no more
--- draft rows than such a step may
+-- the rows that a step adds are new, those that it stores as draft rows are within their limits where the changes that it
+-- asks for are, and it writes no more timing rows and no more draft rows than such a step may
 pub record StepWrites (step : Step) (timing : Timing) (move : Move) : Type 0 where
   pub news : AddsOnlyNew (reach_of step) timing move.changes
-  pub drafts : AreAmong (drafted_in move.changes) (asked_changes step)
+  pub drafts : AreChangesWithin (asked_changes step) → AreChangesWithin (drafted_in move.changes)
   pub committed : timing_writes move.changes ≤ most_committed step (length timing.delta)
   pub drafted : draft_writes move.changes ≤ most_drafted step (length timing.delta)
 

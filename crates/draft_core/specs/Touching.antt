@@ -1,10 +1,7 @@
 -- The subjects that a step of the transaction judges.
 use Rattle.std.specs.Prelude.{List, map}
-use Rattle.signal_records.specs.ChangedRows.{changed_key}
-use Rattle.signal_records.specs.TimingSet.{Rows, after_changes}
-use Rattle.signal_records.specs.declared.record.Change.{Change}
-use Rattle.signal_rules.specs.Touched.{touched_subjects}
-use Rattle.signal_rules.specs.declared.violation.Subject.{Subject}
+use Rattle.signal_records.specs.{ChangedRows.changed_key, TimingSet.Rows, TimingSet.after_changes, declared.record.Change.Change}
+use Rattle.signal_rules.specs.{Touched.touched_subjects, declared.violation.Subject.Subject}
 
 -- the subjects that changes of a set touch, once they are made
 abbrev pub touched_after : Rows → List Change → List Subject

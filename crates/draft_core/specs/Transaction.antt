@@ -1,22 +1,12 @@
 -- The timing side of an intersection, and what each step of the transaction makes of it (NTCIP 1201, `dbCreateTransaction`; the profile is this project's).
 use Rattle.std.specs.Prelude.{ℕ, ◌+◌, Bool, true, false, not, List, [], ◌∷◌, length, ◌==◌, if◌then◌else◌, Option, Some, None, Result, Ok, Err}
-use Rattle.std.specs.Str.{bytes_eq}
-use Rattle.std.specs.Result.{result_err}
-use Rattle.signal_records.specs.TimingSet.{Rows, after_changes}
-use Rattle.signal_rules.specs.Violations.{violations_of}
-use Rattle.signal_rules.specs.declared.violation.Violation.{Violation}
-use Rattle.signal_records.specs.declared.revision.TheConstants.{LAST_REVISION}
-use Rattle.signal_records.specs.declared.state.Stage.{Stage}
-use Rattle.signal_records.specs.declared.state.Stage.TheVariants.{Transaction, Verify, Done}
-use Rattle.signal_records.specs.declared.state.DbState.{DbState}
+use Rattle.std.specs.{Str.bytes_eq, Result.result_err}
+use Rattle.signal_records.specs.{TimingSet.Rows, TimingSet.after_changes, declared.revision.TheConstants.LAST_REVISION, declared.state.Stage.Stage, declared.state.Stage.TheVariants.Transaction, declared.state.Stage.TheVariants.Verify, declared.state.Stage.TheVariants.Done, declared.state.DbState.DbState, declared.state.Verdict.Verdict, declared.state.Verdict.TheVariants.NotDone as NotJudged, declared.state.Verdict.TheVariants.DoneWithError, declared.state.Verdict.TheVariants.DoneWithNoError, declared.state.Holder.Holder}
+use Rattle.signal_rules.specs.{Violations.violations_of, declared.violation.Violation.Violation}
 use Rattle.signal_records.specs.declared.state.DbState.TheVariants.{Normal, Transaction as InTransaction, Verify as InVerify, Done as InDone}
-use Rattle.signal_records.specs.declared.state.Verdict.{Verdict}
-use Rattle.signal_records.specs.declared.state.Verdict.TheVariants.{NotDone as NotJudged, DoneWithError, DoneWithNoError}
-use Rattle.signal_records.specs.declared.state.Holder.{Holder}
-use Rattle.draft_core.specs.declared.step.Step.{Step}
-use Rattle.draft_core.specs.declared.step.Step.TheVariants as step
-use Rattle.draft_core.specs.declared.refusal.DraftRefusal.{DraftRefusal}
+use Rattle.draft_core.specs.declared.{step.Step.Step, refusal.DraftRefusal.DraftRefusal}
 use Rattle.draft_core.specs.declared.refusal.DraftRefusal.TheVariants.{NotNormal, NotTransaction, NotOwner, NotVerify, NotDone, VerifyFailed, RevisionFull}
+use Rattle.draft_core.specs.declared.step.Step.TheVariants as step
 
 -- a draft: a whole set, who owns it, and its stage
 pub record Draft : Type 0 where
@@ -83,16 +73,6 @@ owned holder (Some held) stage wrong clerk step =
 -- why a step of the owner alone is refused before it begins, if it is: by the stage of the draft, else by its owner
 abbrev pub refused_by : Option Holder → Stage → DraftRefusal → List ℕ → Option DraftRefusal
 refused_by holder stage wrong clerk = result_err (owned (λ who. who) holder stage wrong clerk Ok)
-
--- why a draft is not begun: there is one
-abbrev pub refused_if_held : Option Holder → Option DraftRefusal
-refused_if_held None = None
-refused_if_held (Some holder) = Some NotNormal
-
--- why a draft is not abandoned: there is none
-abbrev pub refused_if_free : Option Holder → Option DraftRefusal
-refused_if_free None = Some NotTransaction
-refused_if_free (Some holder) = None
 
 -- the timing side with this draft
 abbrev pub with_draft : TimingSide → Draft → TimingSide

@@ -1,13 +1,8 @@
 -- The rows that are written to abandon a draft, and to commit changes.
 use Rattle.std.specs.Prelude.{List, [], ◌∷◌, ◌++◌, length, map, Option, Some, None}
 use Rattle.std.specs.FinMap.{get}
-use Rattle.signal_records.specs.Row.{key_of}
-use Rattle.signal_records.specs.TimingSet.{Rows}
-use Rattle.signal_records.specs.declared.record.Row.{Row}
-use Rattle.signal_records.specs.declared.record.Change.{Change}
-use Rattle.signal_records.specs.declared.record.Change.TheVariants.{Put, Remove}
-use Rattle.draft_core.specs.declared.timing.TimingChange.{TimingChange}
-use Rattle.draft_core.specs.declared.timing.TimingChange.TheVariants.{CommittedNew, Committed, DraftDropped}
+use Rattle.signal_records.specs.{Row.key_of, TimingSet.Rows, declared.record.Row.Row, declared.record.Change.Change, declared.record.Change.TheVariants.Put, declared.record.Change.TheVariants.Remove}
+use Rattle.draft_core.specs.declared.timing.TimingChange.{TimingChange, TheVariants.CommittedNew, TheVariants.Committed, TheVariants.DraftDropped}
 
 -- the change that drops the draft rows, where there are any
 abbrev pub abandon_rows : List Change → List TimingChange

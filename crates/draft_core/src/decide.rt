@@ -2,18 +2,13 @@
 
 ghost use Rattle.std.specs.Prelude.{◌≡◌, [], Some, IfErr, IfOk, List, ℕ};
 ghost use Rattle.signal_records.specs.TimingSet.{after_changes};
-ghost use Rattle.signal_records.specs.declared.state.DbState.TheVariants as state;
 ghost use Rattle.signal_rules.specs.Violations.{violations_of};
-ghost use Rattle.draft_core.specs.Transaction.{TimingSide, Draft, committed_with};
-ghost use Rattle.draft_core.specs.Drafting.{KeepsOnlyChanges};
-ghost use Rattle.draft_core.specs.DraftRows.{RowsByKey, Stands};
+ghost use Rattle.draft_core.specs.{Transaction.TimingSide, Transaction.Draft, Transaction.committed_with, DraftRows.RowsByKey, DraftRows.Stands, Moves.Follows, Steps.IsUnsettled, Steps.Takes, Writes.commit_rows};
+ghost use Rattle.signal_records.specs.declared.state.DbState.TheVariants as state;
 ghost use Rattle.draft_core.specs.Moves as moves;
-ghost use Rattle.draft_core.specs.Moves.{Follows};
-ghost use Rattle.draft_core.specs.Steps.{IsUnsettled, StepWrites, Takes};
-ghost use Rattle.draft_core.specs.Writes.{commit_rows};
 
 use crate::drafting::draft_changes;
-use crate::holding::{refused_by, state_after};
+use crate::holding::{state_after, test_owner};
 use crate::judging::verdict_on;
 use crate::overlaying::violations_after;
 use crate::refusal::DraftRefusal;
@@ -21,7 +16,7 @@ use crate::revision::Revision;
 use crate::state::{Holding, Stage, Verdict};
 use crate::step::Step;
 use crate::timing::{Move, Reach, Timing, TimingChanges};
-use crate::writes::{abandon_rows, commit_rows};
+use crate::writes::commit_rows;
 use signal_records::{Change, Words};
 use std::alloc::Global;
 
@@ -59,10 +54,10 @@ pub fn begin(alloc: Global, timing: &Timing, _clerk: &Words<40>) -> Result<Move,
     ensures owner { IfOk result (λ move. moves.next_holder move.holder _clerk.now timing.now.holder
         ≡ Some (record { stage = Stage.Transaction; owner = _clerk.now })) }
 {
-    if timing.holder.is_some() {
-        return Err(DraftRefusal::NotNormal);
+    match &timing.holder {
+        None => Ok(stays(alloc, timing, Holding::Begun, Verdict::NotDone)),
+        Some(_) => Err(DraftRefusal::NotNormal),
     }
-    Ok(stays(alloc, timing, Holding::Begun, Verdict::NotDone))
 }
 
 /// Makes changes to the draft. A draft row is kept of each key at which the draft then differs from
@@ -76,14 +71,14 @@ pub fn edit(
     clerk: &Words<40>,
     changes: &[Change],
 ) -> Result<Move, DraftRefusal>
-    ensures takes { Takes (Step.Edit changes.now) timing.now clerk.now result }
-    ensures keeps { IfOk result (λ move.
-        KeepsOnlyChanges timing.now.committed timing.now.delta changes.now move.changes) }
+    ensures { Takes (Step.Edit changes.now) timing.now clerk.now result }
 {
-    let wrong = DraftRefusal::NotTransaction;
-    if let Some(refusal) = refused_by(&timing.holder, Stage::Transaction, wrong, clerk) {
-        return Err(refusal);
-    }
+    test_owner(
+        &timing.holder,
+        Stage::Transaction,
+        DraftRefusal::NotTransaction,
+        clerk,
+    )?;
     let changes = draft_changes(alloc, timing, changes)?;
     let editing = Holding::Kept(Stage::Transaction);
     Ok(moves_to(timing.revision, editing, Verdict::NotDone, changes))
@@ -95,10 +90,12 @@ pub fn edit(
 pub fn verify(alloc: Global, timing: &Timing, clerk: &Words<40>) -> Result<Move, DraftRefusal>
     ensures { Takes Step.Verify timing.now clerk.now result }
 {
-    let wrong = DraftRefusal::NotTransaction;
-    if let Some(refusal) = refused_by(&timing.holder, Stage::Transaction, wrong, clerk) {
-        return Err(refusal);
-    }
+    test_owner(
+        &timing.holder,
+        Stage::Transaction,
+        DraftRefusal::NotTransaction,
+        clerk,
+    )?;
     let waiting = Holding::Kept(Stage::Verify);
     Ok(stays(alloc, timing, waiting, Verdict::NotDone))
 }
@@ -110,10 +107,12 @@ pub fn verify(alloc: Global, timing: &Timing, clerk: &Words<40>) -> Result<Move,
 pub fn check(alloc: Global, timing: &Timing, clerk: &Words<40>) -> Result<Move, DraftRefusal>
     ensures { Takes Step.Check timing.now clerk.now result }
 {
-    let wrong = DraftRefusal::NotVerify;
-    if let Some(refusal) = refused_by(&timing.holder, Stage::Verify, wrong, clerk) {
-        return Err(refusal);
-    }
+    test_owner(
+        &timing.holder,
+        Stage::Verify,
+        DraftRefusal::NotVerify,
+        clerk,
+    )?;
     let found = violations_after(alloc, &timing.committed, timing.delta.as_slice())?;
     let verdict = verdict_on(found.as_slice());
     Ok(stays(alloc, timing, Holding::Kept(Stage::Done), verdict))
@@ -128,23 +127,7 @@ pub fn check(alloc: Global, timing: &Timing, clerk: &Words<40>) -> Result<Move, 
 pub fn commit(alloc: Global, timing: &Timing, clerk: &Words<40>) -> Result<Move, DraftRefusal>
     ensures { Takes Step.Commit timing.now clerk.now result }
 {
-    let wrong = DraftRefusal::NotDone;
-    if let Some(refusal) = refused_by(&timing.holder, Stage::Done, wrong, clerk) {
-        return Err(refusal);
-    }
-    commit_draft(alloc, timing)
-}
-
-/// Commits a checked draft, once its state and its owner were tested. It is refused where it breaks
-/// rules, at the last revision, and for want of memory.
-fn commit_draft(alloc: Global, timing: &Timing) -> Result<Move, DraftRefusal>
-    ensures line { (rows : RowsByKey) (side : TimingSide) (draft : Draft) (clerk : List ℕ) →
-        Stands Reach.Plan timing.now rows side → side.draft ≡ Some draft →
-        violations_of side.committed ≡ [] → Follows rows side clerk result
-        (committed_with side draft (violations_of draft.set)) }
-    ensures refuses { IfErr result IsUnsettled }
-    ensures writes { IfOk result (StepWrites Step.Commit timing.now) }
-{
+    test_owner(&timing.holder, Stage::Done, DraftRefusal::NotDone, clerk)?;
     let found = violations_after(alloc, &timing.committed, timing.delta.as_slice())?;
     if !found.is_empty() {
         return Err(DraftRefusal::VerifyFailed(found.len()));
@@ -182,10 +165,7 @@ pub(crate) fn commit_settled(
 pub fn reopen(alloc: Global, timing: &Timing, clerk: &Words<40>) -> Result<Move, DraftRefusal>
     ensures { Takes Step.Reopen timing.now clerk.now result }
 {
-    let wrong = DraftRefusal::NotDone;
-    if let Some(refusal) = refused_by(&timing.holder, Stage::Done, wrong, clerk) {
-        return Err(refusal);
-    }
+    test_owner(&timing.holder, Stage::Done, DraftRefusal::NotDone, clerk)?;
     let editing = Holding::Kept(Stage::Transaction);
     Ok(stays(alloc, timing, editing, Verdict::NotDone))
 }
@@ -196,9 +176,9 @@ pub fn reopen(alloc: Global, timing: &Timing, clerk: &Words<40>) -> Result<Move,
 pub fn abandon(alloc: Global, timing: &Timing, _clerk: &Words<40>) -> Result<Move, DraftRefusal>
     ensures { Takes Step.Abandon timing.now _clerk.now result }
 {
-    if timing.holder.is_none() {
+    let Some(_) = &timing.holder else {
         return Err(DraftRefusal::NotTransaction);
-    }
-    let changes = abandon_rows(alloc, timing.delta.as_slice())?;
+    };
+    let changes = commit_rows(alloc, &timing.committed, timing.delta.as_slice(), &[])?;
     Ok(moves_to(timing.revision, Holding::Dropped, Verdict::NotDone, changes))
 }

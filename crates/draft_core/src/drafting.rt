@@ -1,6 +1,7 @@
 //! The rows that an edit writes: only what changes the committed set is kept.
 
 ghost use Rattle.std.specs.Prelude.{◌≡◌, IfOk, IsTrue};
+ghost use Rattle.draft_core.specs.DraftRows.{row_at};
 ghost use Rattle.draft_core.specs.Drafting.{AreNamed, DraftsChanges, SaysCommitted, drafted_as};
 
 use crate::overlaying::copy_change;
@@ -54,7 +55,7 @@ pub(crate) fn draft_changes(
     changes: &[Change],
 ) -> Result<TimingChanges, NoMemory>
     ensures { IfOk result
-        (DraftsChanges timing.now.committed timing.now.delta changes.now) }
+        (DraftsChanges timing.now.committed (row_at timing.now.delta) changes.now) }
 {
     let mut drafted = named_keys(alloc, timing.delta.as_slice())?;
     let mut written = Vec::new(alloc);

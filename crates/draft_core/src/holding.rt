@@ -1,37 +1,14 @@
 //! Who holds the draft: the tests of a clerk, and the holder after a step.
 
 ghost use Rattle.std.specs.Prelude.{◌≡◌, IfOk, OnErr};
-ghost use Rattle.std.specs.Option.{option_map, option_copied};
+ghost use Rattle.std.specs.Result.{result_err};
 ghost use Rattle.draft_core.specs.Transaction as table;
 ghost use Rattle.draft_core.specs.Moves as moves;
 ghost use Rattle.draft_core.specs.Revising as revising;
 
 use crate::refusal::DraftRefusal;
 use crate::state::{DbState, Holder, Holding, Stage};
-use crate::timing::Timing;
 use signal_records::{NoMemory, Words};
-
-impl Timing {
-    /// The state of the transaction.
-    pub fn state(&self) -> DbState
-        ensures { result ≡ table.state_of_holder self.now.holder }
-    {
-        match &self.holder {
-            Some(holder) => in_stage(holder.stage),
-            None => DbState::Normal,
-        }
-    }
-
-    /// The clerk who holds the draft; none in state Normal.
-    pub fn owner(&self) -> Option<&Words<40>>
-        ensures { option_copied result ≡ option_map (λ holder. holder.owner) self.now.holder }
-    {
-        match &self.holder {
-            Some(holder) => Some(&holder.owner),
-            None => None,
-        }
-    }
-}
 
 /// The state of the transaction while a clerk holds the draft in this stage.
 fn in_stage(stage: Stage) -> DbState
@@ -44,26 +21,25 @@ fn in_stage(stage: Stage) -> DbState
     }
 }
 
-/// Why a command of the owner, in one stage only, is refused, if it is: first with `wrong`, where
-/// there is no draft or one in another stage, then with `NotOwner`, where another clerk holds it.
-pub(crate) fn refused_by(
+/// The test of a command that only the owner may give, in one stage. It is refused with `wrong` where
+/// there is no draft or one in another stage, then with `NotOwner` where another clerk holds it.
+pub(crate) fn test_owner(
     holder: &Option<Holder>,
     stage: Stage,
     wrong: DraftRefusal,
     clerk: &Words<40>,
-) -> Option<DraftRefusal>
-    ensures { result ≡ table.refused_by holder.now stage wrong clerk.now }
+) -> Result<(), DraftRefusal>
+    ensures { result_err result ≡ table.refused_by holder.now stage wrong clerk.now }
 {
-    let Some(holder) = holder else {
-        return Some(wrong);
-    };
-    if !is_stage(holder.stage, stage) {
-        return Some(wrong);
-    }
-    if holder.owner == *clerk {
-        None
-    } else {
-        Some(DraftRefusal::NotOwner)
+    match holder {
+        Some(holder) if is_stage(holder.stage, stage) => {
+            if holder.owner == *clerk {
+                Ok(())
+            } else {
+                Err(DraftRefusal::NotOwner)
+            }
+        }
+        _ => Err(wrong),
     }
 }
 

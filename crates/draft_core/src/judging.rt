@@ -2,9 +2,8 @@
 
 ghost use Rattle.std.specs.Prelude.{◌≡◌, [], IfOk};
 ghost use Rattle.signal_rules.specs.Violations.{violations_of};
+ghost use Rattle.draft_core.specs.{Transaction.TimingSide, DraftRows.RowsByKey, DraftRows.Stands};
 ghost use Rattle.draft_core.specs.Transaction as table;
-ghost use Rattle.draft_core.specs.Transaction.{TimingSide};
-ghost use Rattle.draft_core.specs.DraftRows.{RowsByKey, Stands};
 ghost use Rattle.signal_records.specs.declared.state.Stage.TheVariants as stage;
 
 use crate::overlaying::violations_after;

@@ -3,11 +3,9 @@
 ghost use Rattle.std.specs.Prelude.{◌≡◌, [], length, map, IfOk};
 ghost use Rattle.std.specs.List.{flat_map};
 ghost use Rattle.signal_records.specs.TimingSet.{after_changes};
-ghost use Rattle.signal_rules.specs.Counts.{RisesAtMost, most_seconds_of};
-ghost use Rattle.signal_rules.specs.Touched.{IsRightOnTouched};
-ghost use Rattle.signal_rules.specs.Violations.{violations_of};
-ghost use Rattle.signal_records.specs.ChangedRows as rows;
+ghost use Rattle.signal_rules.specs.{Counts.RisesAtMost, Counts.most_seconds_of, Touched.IsRightOnTouched, Violations.violations_of};
 ghost use Rattle.draft_core.specs.Touching.{touched_after};
+ghost use Rattle.signal_records.specs.ChangedRows as rows;
 
 use signal_records::{Change, Key, NoMemory, TimingSet, changed_key};
 use signal_rules::{Judge, Tally, Violation, violations_touched};

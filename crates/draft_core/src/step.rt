@@ -1,7 +1,6 @@
 //! The steps of the transaction: a line of its table for each.
 
-ghost use Rattle.draft_core.specs.Steps.{Takes, asked_changes, reach_of};
-ghost use Rattle.draft_core.specs.Within.{AreChangesWithin};
+ghost use Rattle.draft_core.specs.{Steps.Takes, Steps.asked_changes, Steps.reach_of, Within.AreChangesWithin};
 
 use crate::changes::Changes;
 use crate::decide::{abandon, begin, check, commit, edit, reopen, verify};

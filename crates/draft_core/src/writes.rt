@@ -18,13 +18,6 @@ fn drop_rows(alloc: Global, changes: &[Change]) -> Result<Vec<TimingChange>, NoM
     Ok(made)
 }
 
-/// What abandon writes: one change that drops the draft rows, or none where there are none.
-pub(crate) fn abandon_rows(alloc: Global, changes: &[Change]) -> Result<TimingChanges, NoMemory>
-    ensures { IfOk result (λ made. made ≡ writes.abandon_rows changes.now) }
-{
-    Ok(TimingChanges::new(drop_rows(alloc, changes)?))
-}
-
 /// A change as one of the committed set. A row that it puts is new where none is committed under
 /// its key.
 fn settled_by(committed: &TimingSet, change: &Change) -> Result<TimingChange, NoMemory>

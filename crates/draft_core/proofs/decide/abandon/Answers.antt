@@ -1,29 +1,30 @@
-use Rattle.std.proofs.Common.{◌≡◌, [], not, ap, sym, subst, ◌∙◌, rules}
+use Rattle.std.proofs.Common.{◌≡◌, [], ap, sym, subst, ◌∙◌, arith, rules}
 use Rattle.std.specs.{List.AllByRecursion, Prelude.Ok}
-use Rattle.draft_core.specs.{Moves.Follows, Moves.move_to, News.AddsNone, Transaction.abandoned_from, Writes.abandon_rows}
-use Rattle.draft_core.specs.declared.timing.Move.{Move}
+use Rattle.draft_core.specs.{Moves.Follows, Moves.Makes, Moves.move_to, News.AddsNone, Transaction.abandoned_from, Writes.commit_rows, declared.timing.Move.Move}
 use Rattle.signal_records.specs.{declared.state.Holding.TheVariants.Dropped, declared.state.Verdict.TheVariants.NotDone}
-use Rattle.draft_core.proofs.{Lines.held, Makes.abandon_makes, News.among_none, Written.drafted_in-abandon_rows, Written.abandon_rows_adds, Written.abandon_rows_writes}
+use Rattle.draft_core.proofs.{Lines.held_by, Makes.settled_makes, Written.commit_rows_settles, Written.dropping_adds}
 use Rattle.draft_core.proofs.decide.abandon.Goals as goal
 
 pub returns : goal.returns
 returns c =
     let timing = c.args.timing.now in
     let clerk = c.args._clerk.now in
-    let listed = c.in_ok-changes.ensures ∙ ap abandon_rows c.as_slice.ensures.list in
-    let made : c.moves_to.result.changes ≡ abandon_rows timing.delta =
+    let listed = c.in_ok-changes.ensures ∙ ap (λ delta. commit_rows timing.committed delta []) c.as_slice.ensures.list in
+    let made : c.moves_to.result.changes ≡ commit_rows timing.committed timing.delta [] =
     ap (λ (m : Move). m.changes) c.moves_to.ensures ∙ listed in
+    let all = commit_rows_settles timing.committed timing.delta [] in
     record {
       line = λ rows side stands relies.
-          held stands (λ d. Follows rows side clerk (Ok c.moves_to.result) (abandoned_from side d))
-          (c.is_none.ensures ∙ ap not c.if-is_none.false) (λ draft is.
-          abandon_makes stands stands.read clerk c.moves_to.result (c.moves_to.ensures
-          ∙ ap (move_to timing.revision Dropped NotDone) listed));
+          held_by stands _ (λ d. Follows rows side clerk (Ok c.moves_to.result) (abandoned_from side d))
+          c.in-Some.is (λ draft is same.
+          settled_makes stands stands.read [] clerk c.moves_to.result side.revision (c.moves_to.ensures
+          ∙ ap (λ revision. move_to revision Dropped NotDone c.in_ok-changes.changes) stands.same_revision
+          ∙ ap (move_to side.revision Dropped NotDone) listed));
       refuses = search rules;
       writes = record {
-        news = subst (AllByRecursion AddsNone) (sym made) (abandon_rows_adds timing.delta);
-        drafts = rw made (among_none _ [] (drafted_in-abandon_rows timing.delta));
-        committed = rw made (abandon_rows_writes timing.delta).0;
-        drafted = rw made (abandon_rows_writes timing.delta).1;
+        news = rw made (dropping_adds timing.committed timing.delta);
+        drafts = rw (made, all.drafts) (λ within. tt);
+        committed = rw made (omega (arith, all.timing));
+        drafted = rw made (omega (arith, all.draft));
       };
     }

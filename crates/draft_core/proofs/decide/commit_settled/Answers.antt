@@ -1,8 +1,7 @@
 use Rattle.std.proofs.Common.{◌+◌, ◌==◌, None, Some, ap, cond, subst, sym, ◌∙◌}
-use Rattle.signal_records.specs.{TimingSet.after_changes, declared.revision.TheConstants.LAST_REVISION}
-use Rattle.signal_records.specs.{declared.state.Holding.TheVariants.Dropped, declared.state.Verdict.TheVariants.NotDone}
+use Rattle.signal_records.specs.{TimingSet.after_changes, declared.revision.TheConstants.LAST_REVISION, declared.state.Holding.TheVariants.Dropped, declared.state.Verdict.TheVariants.NotDone}
 use Rattle.draft_core.specs.{Moves.Makes, Moves.move_to, Writes.commit_rows}
-use Rattle.draft_core.proofs.{Lines.commit_follows, Makes.commit_makes}
+use Rattle.draft_core.proofs.{Lines.commit_follows, Makes.settled_makes}
 use Rattle.draft_core.proofs.decide.commit_settled.Goals as goal
 
 pub returns-clause-line : goal.returns-clause-line
@@ -20,5 +19,5 @@ returns-clause-line c = λ rows side draft clerk stands same.
       committed = set;
       draft = None;
     })) (ap (λ set. after_changes set settled) (sym stands.read.1) ∙ same)
-    (commit_makes stands stands.read.0 settled clerk _ revision
+    (settled_makes stands stands.read.0 settled clerk _ revision
     (c.moves_to.ensures ∙ ap (move_to revision Dropped NotDone) listed)))

@@ -1,9 +1,9 @@
-use Rattle.std.proofs.Common.{take}
-use Rattle.draft_core.proofs.OnlyChanges.{DraftsSoFar}
+use Rattle.std.proofs.Common.{drop}
+use Rattle.draft_core.specs.DraftRows.{row_at}
+use Rattle.draft_core.proofs.Drafts.{DraftsOn}
 use Rattle.draft_core.proofs.drafting.draft_changes.Given as goal
 
--- the keys that have a draft row by then, and what was written for the changes so far
+-- what was written so far goes on to what all changes write
 abbrev pub invariant-loop-change : goal.invariant-loop-change
-invariant-loop-change l =
-    DraftsSoFar l.timing.committed l.timing.delta (take l.change-index l.changes) l.drafted
-    l.written.items
+invariant-loop-change l = DraftsOn l.timing.committed (row_at l.timing.delta) l.changes
+    (drop l.change-index l.changes) l.drafted l.written.items

@@ -3,9 +3,7 @@ use Rattle.signal_rules.specs.{Violations.violations_of, declared.violation.Viol
 use Rattle.signal_records.specs.{TimingSet.after_changes, declared.state.Stage.TheVariants.Done}
 use Rattle.draft_core.specs.Moves.{Follows}
 use Rattle.draft_core.specs.Revising.{RevisionWrites, WritesRows, base_of, committing}
-use Rattle.draft_core.proofs.{Lines.none_found, Makes.edit_makes, News.revision_settles}
-use Rattle.draft_core.proofs.Revisions.{breaks_stay, ends_with, found_after, takes_up}
-use Rattle.draft_core.proofs.revising.revise.Goals.{else-commit-via-then-commit+in_ok-violations_after+else-is_empty, else-commit-via-else-commit}
+use Rattle.draft_core.proofs.{Lines.none_found, Makes.edit_makes, News.revision_settles, Overlaid.found_in, Revisions.breaks_stay, Revisions.ends_with, Revisions.takes_up, revising.revise.Goals.else-commit-via-then-commit+in_ok-violations_after+else-is_empty, revising.revise.Goals.else-commit-via-else-commit}
 use Rattle.draft_core.proofs.revising.revise.Goals as goal
 
 pub returns-then-is_empty : goal.returns-then-is_empty
@@ -17,8 +15,8 @@ returns-then-is_empty c =
     record {
       line = λ rows side stands sound same.
           let takes = takes_up stands c.args.clerk.now c.in_ok-holder.holder c.in_ok-holder.ensures.takes in
-          let keeps = sym (found_after stands edits settled sound same found c.in_ok-violations_after.ensures)
-          ∙ none_found found none in
+          let keeps = sym (found_in stands found settled _ sound c.in_ok-violations_after.ensures
+          (ap (λ set. after_changes set settled) stands.read.1 ∙ sym same)) ∙ none_found found none in
           rw (takes.lines edits c.args.commit, c.if-commit.true, keeps)
           (c.commit_settled.ensures.line rows side
           (record { stage = Done; owner = takes.owner; set = after_changes (base_of side) edits })
@@ -46,8 +44,8 @@ returns c =
                 let some : (length found == 0) ≡ false = cc in
                 breaks_stay c.args.commit (violations_of after)
                 (ap (λ (list : List Violation). length list == 0)
-                (sym (found_after stands edits settled sound same found
-                w.in_ok-violations_after.ensures)) ∙ some)
+                (sym (found_in stands found settled _ sound w.in_ok-violations_after.ensures
+                (ap (λ set. after_changes set settled) stands.read.1 ∙ sym same))) ∙ some)
             | else-commit-via-else-commit w ↦
                 ap (λ b. committing b (violations_of after)) w.if-commit.false
           ] in
@@ -57,7 +55,7 @@ returns c =
           opens takes.holds did c.moves_to.ensures);
       writes = subst (RevisionWrites timing edits settled) (sym c.moves_to.ensures) (record {
         news = λ old order. did.news;
-        drafts = did.among;
+        drafts = did.within;
         rows = subst (λ state. WritesRows state timing.delta edits settled c.in_ok-rows.rows)
             (sym opens) (did.no_timing, did.few);
       });
