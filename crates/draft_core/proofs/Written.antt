@@ -1,5 +1,5 @@
 -- What the changes that commit and abandon write make of the rows, and how many they are.
-use Rattle.std.proofs.Common.{◌≡◌, ◌≤◌, List, [], ◌∷◌, map, length, Option, None, Some, refl, ap, sym, subst, ◌∙◌, arith}
+use Rattle.std.proofs.Common.{◌≡◌, List, [], ◌∷◌, map, length, Option, None, Some, refl, ◌∙◌, arith}
 use Rattle.std.specs.{FinMap.get, List.AllByRecursion}
 use Rattle.signal_records.specs.{Row.key_of, TimingSet.Rows, declared.key.Key.Key, declared.record.Row.Row, declared.record.Change.Change, declared.record.Change.TheVariants.Put, declared.record.Change.TheVariants.Remove}
 use Rattle.draft_core.specs.DraftRows.{Said, silent, row_at, overlaid_row, said_at}

@@ -8,5 +8,4 @@ pub mod Steps
 pub mod Writes
 pub mod Sound
 pub mod Refusal
-pub mod Touching
 pub mod Revising

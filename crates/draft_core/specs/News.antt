@@ -2,8 +2,7 @@
 use Rattle.std.specs.Prelude.{◌≡◌, List, [], ◌∷◌, map, Option, None}
 use Rattle.std.specs.{FinMap.get, List.AllByRecursion, List.Sorted.IsStrictlySortedBy}
 use Rattle.signal_records.specs.{Key.key_cmp, Row.key_of, TimingSet.Rows, declared.key.Key.Key, declared.record.Row.Row, declared.record.Change.Change, ChangedRows.changed_key}
-use Rattle.draft_core.specs.{declared.timing.Reach.Reach, declared.timing.Timing.Timing, declared.timing.TimingChange.TimingChange, DraftRows.Said, DraftRows.silent, DraftRows.row_at, Moves.committed_by, Moves.said_after}
-use Rattle.draft_core.specs.declared.timing.TimingChange.TheVariants.{CommittedNew, Committed, DraftedNew, Drafted, DraftGone, DraftDropped}
+use Rattle.draft_core.specs.{declared.timing.Reach.Reach, declared.timing.Timing.Timing, declared.timing.TimingChange.TimingChange, DraftRows.Said, DraftRows.silent, DraftRows.row_at, Moves.committed_by, Moves.said_after, declared.timing.TimingChange.TheVariants.CommittedNew, declared.timing.TimingChange.TheVariants.DraftedNew}
 use Rattle.draft_core.specs.declared.timing.Reach.TheVariants as reach
 
 -- draft rows stand in ascending order of their keys, at most one for each key

@@ -53,12 +53,4 @@ impl Changes {
     {
         self.list.as_slice()
     }
-
-    /// The changes as a list of its own, which takes no further memory.
-    pub fn into_vec(self) -> Vec<Change>
-        ensures { result.items ≡ self }
-    {
-        let Changes { list } = self;
-        list
-    }
 }

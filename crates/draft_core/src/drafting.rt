@@ -1,6 +1,6 @@
 //! The rows that an edit writes: only what changes the committed set is kept.
 
-ghost use Rattle.std.specs.Prelude.{◌≡◌, IfOk, IsTrue};
+ghost use Rattle.std.specs.Prelude.{◌≡◌, ◌↔◌, IfOk, IsTrue};
 ghost use Rattle.draft_core.specs.DraftRows.{row_at};
 ghost use Rattle.draft_core.specs.Drafting.{AreNamed, DraftsChanges, SaysCommitted, drafted_as};
 
@@ -23,8 +23,7 @@ fn named_keys(alloc: Global, changes: &[Change]) -> Result<BTreeSet<Key>, NoMemo
 
 /// Whether a change leaves at its key what is committed there.
 fn says_committed(committed: &TimingSet, change: &Change) -> bool
-    ensures is { IsTrue result → SaysCommitted committed.now change.now }
-    ensures other { SaysCommitted committed.now change.now → IsTrue result }
+    ensures { IsTrue result ↔ SaysCommitted committed.now change.now }
 {
     let key = changed_key(change);
     match (committed.get(&key), change) {

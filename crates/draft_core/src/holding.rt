@@ -32,7 +32,7 @@ pub(crate) fn test_owner(
     ensures { result_err result ≡ table.refused_by holder.now stage wrong clerk.now }
 {
     match holder {
-        Some(holder) if is_stage(holder.stage, stage) => {
+        Some(holder) if holder.stage == stage => {
             if holder.owner == *clerk {
                 Ok(())
             } else {
@@ -54,18 +54,6 @@ pub(crate) fn take_up(holder: &Option<Holder>, clerk: &Words<40>) -> Result<Hold
         None => Ok(Holding::Begun),
         Some(holder) if holder.owner == *clerk => Ok(Holding::Kept(Stage::Transaction)),
         Some(_) => Err(DraftRefusal::NotOwner),
-    }
-}
-
-/// Whether two stages are equal.
-fn is_stage(a: Stage, b: Stage) -> bool
-    ensures { result ≡ table.is_stage a b }
-{
-    match (a, b) {
-        (Stage::Transaction, Stage::Transaction)
-        | (Stage::Verify, Stage::Verify)
-        | (Stage::Done, Stage::Done) => true,
-        _ => false,
     }
 }
 

@@ -7,7 +7,7 @@ ghost use Rattle.draft_core.specs.Transaction as table;
 ghost use Rattle.signal_records.specs.declared.state.Stage.TheVariants as stage;
 
 use crate::overlaying::violations_after;
-use crate::state::{Holder, Stage, Verdict};
+use crate::state::{Stage, Verdict};
 use crate::timing::{Reach, Timing};
 use signal_records::NoMemory;
 use signal_rules::Violation;
@@ -21,16 +21,15 @@ pub fn verdict(alloc: Global, timing: &Timing) -> Result<Verdict, NoMemory>
         violations_of side.committed ≡ [] →
         IfOk result (λ verdict. verdict ≡ table.verdict_of side.draft) }
 {
-    match &timing.holder {
-        None => return Ok(Verdict::NotDone),
-        Some(holder) => match holder.stage {
-            Stage::Transaction => return Ok(Verdict::NotDone),
-            Stage::Verify => return Ok(Verdict::NotDone),
-            Stage::Done => {
-                let found = violations_after(alloc, &timing.committed, timing.delta.as_slice())?;
-                return Ok(verdict_on(found.as_slice()));
-            }
-        },
+    let Some(holder) = &timing.holder else {
+        return Ok(Verdict::NotDone);
+    };
+    match holder.stage {
+        Stage::Transaction | Stage::Verify => Ok(Verdict::NotDone),
+        Stage::Done => {
+            let found = violations_after(alloc, &timing.committed, timing.delta.as_slice())?;
+            Ok(verdict_on(found.as_slice()))
+        }
     }
 }
 

@@ -3,8 +3,7 @@
 ghost use Rattle.std.specs.Prelude.{◌≡◌, [], length, map, IfOk};
 ghost use Rattle.std.specs.List.{flat_map};
 ghost use Rattle.signal_records.specs.TimingSet.{after_changes};
-ghost use Rattle.signal_rules.specs.{Counts.RisesAtMost, Counts.most_seconds_of, Touched.IsRightOnTouched, Violations.violations_of};
-ghost use Rattle.draft_core.specs.Touching.{touched_after};
+ghost use Rattle.signal_rules.specs.{Counts.RisesAtMost, Touched.IsRightOnTouched, Touched.touched_subjects, Violations.violations_of};
 ghost use Rattle.signal_records.specs.ChangedRows as rows;
 
 use signal_records::{Change, Key, NoMemory, TimingSet, changed_key};
@@ -57,18 +56,16 @@ fn answers_after<J: Judge>(
 ) -> Result<Vec<Violation>, NoMemory>
     ensures answers { IfOk result (λ found. found.items ≡
         flat_map (J.answers (after_changes committed.now changes.now))
-        (touched_after committed.now changes.now)) }
+        (touched_subjects (after_changes committed.now changes.now)
+        (map rows.changed_key changes.now))) }
     ensures whole { violations_of committed.now ≡ [] →
         IsRightOnTouched J.answers (after_changes committed.now changes.now)
         (map rows.changed_key changes.now) →
         IfOk result (λ found.
         found.items ≡ violations_of (after_changes committed.now changes.now)) }
-    ensures calls { RisesAtMost (length (touched_after committed.now changes.now))
+    ensures calls { RisesAtMost (length (touched_subjects
+        (after_changes committed.now changes.now) (map rows.changed_key changes.now)))
         (J.calls judge.old) (J.calls judge.new) }
-    ensures seconds { RisesAtMost
-        (most_seconds_of (after_changes committed.now changes.now)
-        (touched_after committed.now changes.now))
-        (J.seconds judge.old) (J.seconds judge.new) }
 {
     let draft = overlay(alloc, committed, changes)?;
     let keys = changed_keys(alloc, changes)?;

@@ -7,17 +7,6 @@ use crate::timing::{TimingChange, TimingChanges};
 use signal_records::{Change, NoMemory, TimingSet};
 use std::alloc::Global;
 
-/// The change that drops all draft rows, which are `changes`; no change where there are none.
-fn drop_rows(alloc: Global, changes: &[Change]) -> Result<Vec<TimingChange>, NoMemory>
-    ensures { IfOk result (λ made. made.items ≡ writes.abandon_rows changes.now) }
-{
-    let mut made = Vec::new(alloc);
-    if !changes.is_empty() {
-        made.push(TimingChange::DraftDropped(changes.len()))?;
-    }
-    Ok(made)
-}
-
 /// A change as one of the committed set. A row that it puts is new where none is committed under
 /// its key.
 fn settled_by(committed: &TimingSet, change: &Change) -> Result<TimingChange, NoMemory>
@@ -43,7 +32,10 @@ pub(crate) fn commit_rows(
     ensures { IfOk result (λ made.
         made ≡ writes.commit_rows committed.now delta.now changes.now) }
 {
-    let mut made = drop_rows(alloc, delta)?;
+    let mut made = Vec::new(alloc);
+    if !delta.is_empty() {
+        made.push(TimingChange::DraftDropped(delta.len()))?;
+    }
     for change in changes {
         made.push(settled_by(committed, change)?)?;
     }

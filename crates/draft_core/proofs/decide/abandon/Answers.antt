@@ -1,6 +1,6 @@
 use Rattle.std.proofs.Common.{◌≡◌, [], ap, sym, subst, ◌∙◌, arith, rules}
-use Rattle.std.specs.{List.AllByRecursion, Prelude.Ok}
-use Rattle.draft_core.specs.{Moves.Follows, Moves.Makes, Moves.move_to, News.AddsNone, Transaction.abandoned_from, Writes.commit_rows, declared.timing.Move.Move}
+use Rattle.std.specs.{Prelude.Ok}
+use Rattle.draft_core.specs.{Moves.Follows, Moves.move_to, Transaction.abandoned_from, Writes.commit_rows, declared.timing.Move.Move}
 use Rattle.signal_records.specs.{declared.state.Holding.TheVariants.Dropped, declared.state.Verdict.TheVariants.NotDone}
 use Rattle.draft_core.proofs.{Lines.held_by, Makes.settled_makes, Written.commit_rows_settles, Written.dropping_adds}
 use Rattle.draft_core.proofs.decide.abandon.Goals as goal
@@ -15,9 +15,8 @@ returns c =
     let all = commit_rows_settles timing.committed timing.delta [] in
     record {
       line = λ rows side stands relies.
-          held_by stands _ (λ d. Follows rows side clerk (Ok c.moves_to.result) (abandoned_from side d))
-          c.in-Some.is (λ draft is same.
-          settled_makes stands stands.read [] clerk c.moves_to.result side.revision (c.moves_to.ensures
+          subst (λ d. Follows rows side clerk (Ok c.moves_to.result) (abandoned_from side d))
+          (sym (held_by stands _ c.in-Some.is).1) (settled_makes stands stands.read [] clerk c.moves_to.result side.revision (c.moves_to.ensures
           ∙ ap (λ revision. move_to revision Dropped NotDone c.in_ok-changes.changes) stands.same_revision
           ∙ ap (move_to side.revision Dropped NotDone) listed));
       refuses = search rules;

@@ -1,4 +1,4 @@
-use Rattle.std.proofs.Common.{[], ap, refl, rules}
+use Rattle.std.proofs.Common.{[], ap, refl, subst, sym, rules}
 use Rattle.std.specs.Prelude.{Ok}
 use Rattle.signal_records.specs.declared.{state.Holding.TheVariants.Begun, state.Stage.TheVariants.Transaction}
 use Rattle.draft_core.specs.{Moves.Follows, Revising.base_from, Transaction.begun_from}
@@ -10,8 +10,8 @@ returns-in-None-clause-takes c =
     let clerk = c.args._clerk.now in
     record {
       line = λ rows side stands relies.
-          free_of stands (λ d. Follows rows side clerk (Ok c.stays.result) (begun_from side clerk d))
-          c.in-None.is (λ free. draft_makes stands
+          let free = free_of stands c.in-None.is in
+          subst (λ d. Follows rows side clerk (Ok c.stays.result) (begun_from side clerk d)) (sym free) (draft_makes stands
           (record { stage = Transaction; owner = clerk; set = side.committed }) clerk side.committed
           [] [] Begun _ _ (ap (base_from side.committed) free) refl refl refl refl
           (nothing_drafted side.committed rows) c.stays.ensures);

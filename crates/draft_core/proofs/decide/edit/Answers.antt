@@ -1,6 +1,6 @@
-use Rattle.std.proofs.Common.{ap, arith, refl, sym, subst₂, rules}
+use Rattle.std.proofs.Common.{ap, arith, refl, sym, rules}
 use Rattle.std.specs.Option.{option_map}
-use Rattle.signal_records.specs.{declared.state.Holding.TheVariants.Kept, declared.state.Stage.TheVariants.Transaction, TimingSet.after_changes}
+use Rattle.signal_records.specs.{declared.state.Holding.TheVariants.Kept, declared.state.Stage.TheVariants.Transaction}
 use Rattle.draft_core.specs.{Moves.next_holder, Revising.base_from, Transaction.holder_of, Moves.Follows}
 use Rattle.std.specs.Prelude.{Ok}
 use Rattle.draft_core.proofs.{Lines.owned_passes, Makes.edit_makes}

@@ -38,19 +38,19 @@ loop-change-preserved c =
           ∙ ap (λ (kept : TimingChange). written ++ kept ∷ []) w.in_ok-drafted_row.ensures))
           (turn_kept _ _ all _ change _ _ written so_far
           (λ says. absurd (let f : false ≡ true = sym w.if-not-says_committed.true
-          ∙ c.says_committed.ensures.other says in cc)) w.in_ok-is_new.is_new
+          ∙ c.says_committed.ensures.1 says in cc)) w.in_ok-is_new.is_new
           (rw c.changed_key-key.ensures at w.in_ok-is_new.ensures.added)
           (rw c.changed_key-key.ensures at w.in_ok-is_new.ensures.updates.0))
       | else-not-says_committed+then-remove+in_ok-push-2 w ↦
           subst₂ (On (drop (index + 1) all)) (sym w.drafted-is)
           (sym (ap (λ (v : Vec TimingChange). v.items) w.written-is ∙ w.in_ok-push-2.ensures.items
           ∙ ap (λ (key : Key). written ++ DraftGone key ∷ []) c.changed_key-key.ensures))
-          (turn_gone _ _ all _ change _ _ written so_far (c.says_committed.ensures.is w.if-not-says_committed.false)
+          (turn_gone _ _ all _ change _ _ written so_far (c.says_committed.ensures.0 w.if-not-says_committed.false)
           (rw c.changed_key-key.ensures at w.remove.ensures.updates.0))
       | else-not-says_committed+else-remove w ↦
           subst₂ (On (drop (index + 1) all)) (sym w.drafted-is)
           (sym (ap (λ (v : Vec TimingChange). v.items) w.written-is))
-          (turn_passed _ _ all _ change _ _ written so_far (c.says_committed.ensures.is w.if-not-says_committed.false)
+          (turn_passed _ _ all _ change _ _ written so_far (c.says_committed.ensures.0 w.if-not-says_committed.false)
           (rw c.changed_key-key.ensures at (sym w.remove.ensures.test ∙ w.if-remove.false))
           ((rw w.if-remove.false at w.remove.ensures.unchanged)))
     ]

@@ -1,8 +1,8 @@
-use Rattle.std.proofs.Common.{◌≡◌, ◌+◌, ◌∷◌, ◌||◌, List, drop, sym, ap, ◌∙◌}
-use Rattle.std.proofs.lemmas.List.{drop_all, drop_more}
-use Rattle.std.specs.{BTreeMap.is_at, List.list_any, BTreeSet.contains}
-use Rattle.signal_records.specs.{Key.key_cmp, declared.key.Key.Key}
-use Rattle.draft_core.specs.{DraftRows.row_at, Drafting.AreNamed, Drafting.is_said}
+use Rattle.std.proofs.Common.{◌≡◌, ◌+◌, ◌∷◌, ◌||◌, drop, sym, ap, ◌∙◌}
+use Rattle.std.proofs.lemmas.List.{drop_more}
+use Rattle.std.specs.{BTreeSet.contains}
+use Rattle.signal_records.specs.{Key.key_cmp}
+use Rattle.draft_core.specs.{DraftRows.row_at, Drafting.is_said}
 use Rattle.draft_core.proofs.Drafts.{named_first}
 use Rattle.draft_core.proofs.drafting.named_keys.Goals as goal
 
