@@ -2,7 +2,7 @@
 use Rattle.std.proofs.Common.{◌≡◌, ℕ, List, [], Some, None, refl, ap, sym, subst, subst₂, ◌∙◌}
 use Rattle.signal_records.specs.{declared.state.DbState.TheVariants.Transaction as InTransaction, declared.state.Stage.TheVariants.Transaction, declared.key.Key.Key, declared.record.Change.Change, TimingSet.Rows, TimingSet.after_changes, declared.state.Stage.Stage, declared.state.Verdict.Verdict, declared.state.Holding.Holding, declared.state.Holding.TheVariants.Dropped, declared.state.Holding.TheVariants.Kept, declared.state.Verdict.TheVariants.NotDone as NotJudged}
 use Rattle.std.specs.{Option.option_map, FinMap.get}
-use Rattle.draft_core.specs.{declared.timing.Timing.Timing, declared.timing.Reach.Reach, declared.timing.Move.Move, declared.timing.TimingChange.TimingChange, Transaction.TimingSide, Transaction.Draft, Transaction.holder_of, Transaction.in_stage, Transaction.verdict_of, Transaction.with_draft, DraftRows.RowsByKey, DraftRows.Stands, DraftRows.row_at, DraftRows.overlaid_row, Moves.Makes, Moves.move_to, Moves.next_holder, Moves.state_after, Revising.base_from, Revising.base_of, Writes.commit_rows, Drafting.DraftsChanges}
+use Rattle.draft_core.specs.{declared.timing.Timing.Timing, declared.timing.Reach.Reach, declared.timing.Move.Move, declared.timing.TimingChange.TimingChange, Transaction.TimingSide, Transaction.Draft, Transaction.holder_of, Transaction.in_stage, Transaction.verdict_of, Transaction.with_draft, DraftRows.RowsByKey, DraftRows.Stands, DraftRows.row_at, DraftRows.overlaid_row, Moves.Makes, Moves.move_to, Moves.next_holder, Moves.state_after, Revising.base_from, Revising.base_of, Drafting.commit_rows, Drafting.DraftsChanges}
 use Rattle.draft_core.proofs.{Drafts.nothing_drafted, Overlaid.base_row, Overlaid.get-after_changes, Written.commit_rows_settles}
 use Rattle.draft_core.specs.declared.timing.Reach.TheVariants as reach
 

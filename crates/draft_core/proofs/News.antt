@@ -3,7 +3,7 @@ use Rattle.std.proofs.Common.{◌≡◌, ℕ, cond, List, [], ◌∷◌, map, le
 use Rattle.std.proofs.lemmas.List.Elements.{All-contains, All-from_recursion}
 use Rattle.std.specs.{Cmp.eq_by_cmp_equiv, FinMap.get, List.Contains, List.Sorted.IsStrictlySortedBy, Ordering.is_eq, declared.cmp.Ordering.TheVariants.Less}
 use Rattle.signal_records.specs.{Key.key_cmp, KeyOrder.key_total, TimingSet.Rows, declared.key.Key.Key, declared.record.Row.Row, declared.record.Change.Change, ChangedRows.changed_key, declared.state.Holding.Holding, declared.state.Verdict.Verdict, declared.state.DbState.TheVariants.Normal}
-use Rattle.draft_core.specs.{declared.step.Step.Step, declared.timing.Move.Move, declared.timing.Reach.Reach, Moves.move_to, declared.timing.Timing.Timing, DraftRows.Said, DraftRows.silent, DraftRows.said_by, DraftRows.overlaid_row, DraftRows.row_at, News.AddsOnlyNew, News.AreInOrder, News.AreNew, News.AreNewAt, News.IsNewAt, Steps.StepWrites, Steps.reach_of, Writes.settled_by, Writes.commit_rows, declared.step.Step.TheVariants.Commit, declared.refusal.DraftRefusal.DraftRefusal, Revising.RevisionWrites}
+use Rattle.draft_core.specs.{declared.step.Step.Step, declared.timing.Move.Move, declared.timing.Reach.Reach, Moves.move_to, declared.timing.Timing.Timing, DraftRows.Said, DraftRows.silent, DraftRows.said_by, DraftRows.overlaid_row, DraftRows.row_at, News.AddsOnlyNew, News.AreInOrder, News.AreNew, News.AreNewAt, News.IsNewAt, Steps.StepWrites, Steps.reach_of, Drafting.settled_by, Drafting.commit_rows, declared.step.Step.TheVariants.Commit, declared.refusal.DraftRefusal.DraftRefusal, Revising.RevisionWrites}
 use Rattle.draft_core.proofs.Overlaid.{contains_later}
 use Rattle.draft_core.proofs.Written.{Settles, commit_rows_settles, settled_commits, settled_either}
 use Rattle.draft_core.specs.declared.timing.Reach.TheVariants as reach

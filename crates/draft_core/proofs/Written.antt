@@ -4,7 +4,7 @@ use Rattle.std.specs.{FinMap.get, List.AllByRecursion}
 use Rattle.signal_records.specs.{Row.key_of, TimingSet.Rows, declared.key.Key.Key, declared.record.Row.Row, declared.record.Change.Change, declared.record.Change.TheVariants.Put, declared.record.Change.TheVariants.Remove}
 use Rattle.draft_core.specs.DraftRows.{Said, silent, row_at, overlaid_row, said_at}
 use Rattle.draft_core.specs.Moves.{committed_after, committed_by, draft_writes, drafted_in, row_after, timing_writes}
-use Rattle.draft_core.specs.{News.AddsNone, Writes.commit_rows, Writes.put_over, Writes.settled_by, declared.timing.TimingChange.TimingChange, declared.timing.TimingChange.TheVariants.CommittedNew, declared.timing.TimingChange.TheVariants.Committed}
+use Rattle.draft_core.specs.{News.AddsNone, Drafting.commit_rows, Drafting.put_over, Drafting.settled_by, declared.timing.TimingChange.TimingChange, declared.timing.TimingChange.TheVariants.CommittedNew, declared.timing.TimingChange.TheVariants.Committed}
 use Rattle.draft_core.proofs.Overlaid.{overlaid_row-overlaid_row}
 
 -- a change as one of the committed set is the change itself, or adds the row that it puts, where none is committed

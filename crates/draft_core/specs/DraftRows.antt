@@ -23,8 +23,7 @@ said_at change key = cond (eq_by_cmp key_cmp key (changed_key change)) (said_by 
 -- what two changes say of a key: what the later one says, or what the earlier one says where the later is silent
 abbrev pub later_of : Said → Said → Said
 later_of silent earlier = earlier
-later_of (leaves row) earlier = leaves row
-later_of removes earlier = removes
+later_of later earlier = later
 
 -- what changes say of a key; the last one that names it decides
 abbrev pub row_at : List Change → Key → Said

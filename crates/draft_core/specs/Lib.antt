@@ -5,7 +5,6 @@ pub mod Moves
 pub mod News
 pub mod Drafting
 pub mod Steps
-pub mod Writes
 pub mod Sound
 pub mod Refusal
 pub mod Revising

@@ -3,7 +3,7 @@
 ghost use Rattle.std.specs.Prelude.{◌≡◌, [], Some, IfErr, IfOk, List, ℕ};
 ghost use Rattle.signal_records.specs.TimingSet.{after_changes};
 ghost use Rattle.signal_rules.specs.Violations.{violations_of};
-ghost use Rattle.draft_core.specs.{Transaction.TimingSide, Transaction.Draft, Transaction.committed_with, DraftRows.RowsByKey, DraftRows.Stands, Moves.Follows, Steps.IsUnsettled, Steps.Takes, Writes.commit_rows};
+ghost use Rattle.draft_core.specs.{Transaction.TimingSide, Transaction.Draft, Transaction.committed_with, DraftRows.RowsByKey, DraftRows.Stands, Moves.Follows, Steps.IsUnsettled, Steps.Takes, Drafting.commit_rows};
 ghost use Rattle.signal_records.specs.declared.state.DbState.TheVariants as state;
 ghost use Rattle.draft_core.specs.Moves as moves;
 

@@ -1,7 +1,7 @@
 //! The changes of rows by which a draft is abandoned, and a set committed.
 
 ghost use Rattle.std.specs.Prelude.{◌≡◌, IfOk};
-ghost use Rattle.draft_core.specs.Writes as writes;
+ghost use Rattle.draft_core.specs.Drafting as writes;
 
 use crate::timing::{TimingChange, TimingChanges};
 use signal_records::{Change, NoMemory, TimingSet};

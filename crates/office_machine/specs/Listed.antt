@@ -1,10 +1,8 @@
 -- The list of all intersections.
 use Rattle.std.specs.Prelude.{ℕ, List, map}
-use Rattle.std.specs.Option.{option_map}
-use Rattle.std.specs.FinMap.{entries, len}
+use Rattle.std.specs.{Option.option_map, FinMap.entries, FinMap.len}
 use Rattle.draft_core.specs.Transaction.{holder_of}
-use Rattle.office_machine.specs.declared.intersections.ListedIntersection.{ListedIntersection}
-use Rattle.office_machine.specs.Office.{Office, Intersection}
+use Rattle.office_machine.specs.{declared.intersections.ListedIntersection.ListedIntersection, Office.Office, Office.Intersection}
 
 -- what the list of all intersections shows of an intersection, given with its number
 abbrev pub intersection_listed : ℕ × Intersection → ListedIntersection

@@ -1,13 +1,10 @@
 -- What an office is, and when it is sound.
 use Rattle.std.specs.Prelude.{◌≡◌, ℕ, ◌≤◌, List, [], Option, Some, None, IfSome}
-use Rattle.std.specs.Int.{IsInRange}
-use Rattle.std.specs.Ordering.{nat_cmp}
-use Rattle.std.specs.FinMap.{FinMap, get}
+use Rattle.std.specs.{Int.IsInRange, Ordering.nat_cmp, FinMap.FinMap, FinMap.get}
 use Rattle.signal_values.specs.Words.{AreWords}
 use Rattle.draft_core.specs.Transaction.{TimingSide}
 pub use Rattle.draft_core.specs.Sound.{no_timing, Version, today, version_1, AreRecordsIn, AreRecords, IsSoundDraftIn, IsSoundDraft}
-use Rattle.cabinet_core.specs.Register.{Register}
-use Rattle.cabinet_core.specs.Sound.{IsSoundRegister}
+use Rattle.cabinet_core.specs.{Register.Register, Sound.IsSoundRegister}
 use Rattle.signal_records.specs.declared.revision.TheConstants.{LAST_REVISION}
 
 -- an intersection of the office: its name, the days from one inspection to the next, and its timing side

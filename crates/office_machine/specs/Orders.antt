@@ -1,10 +1,7 @@
 -- Open orders as lists show them, each with its intersection.
 use Rattle.std.specs.Prelude.{ℕ, List, map, filter}
-use Rattle.cabinet_core.specs.Orders.{is_open}
-use Rattle.cabinet_core.specs.declared.record.Order.{Order}
-use Rattle.office_machine.specs.declared.orders.NamedOrder.{NamedOrder}
-use Rattle.office_machine.specs.declared.orders.OpenOrder.{OpenOrder}
-use Rattle.office_machine.specs.declared.reply.CabinetShown.{CabinetShown}
+use Rattle.cabinet_core.specs.{Orders.is_open, declared.record.Order.Order}
+use Rattle.office_machine.specs.declared.{orders.NamedOrder.NamedOrder, orders.OpenOrder.OpenOrder, reply.CabinetShown.CabinetShown}
 
 -- an order with the number of its intersection
 abbrev pub order_on : ℕ → Order → OpenOrder

@@ -1,11 +1,11 @@
 -- The table of the office's refusals: for each its number, its name and its status code.
 use Rattle.std.specs.Prelude.{ℕ, List, codes}
 use Rattle.draft_core.specs.Refusal.{line_of as draft_line}
-use Rattle.draft_core.specs.declared.refusal.DraftRefusal.TheVariants as draft
 use Rattle.cabinet_core.specs.Refusal.{line_of as record_line}
-use Rattle.cabinet_core.specs.declared.refusal.CabinetRefusal.TheVariants as cabinet
 use Rattle.office_machine.specs.declared.refusal.Refusal.{Refusal}
 use Rattle.office_machine.specs.declared.refusal.Refusal.TheVariants.{UnknownIntersection, IntersectionDiffers, Draft, Cabinet, ImportRow, Unavailable, Damaged}
+use Rattle.draft_core.specs.declared.refusal.DraftRefusal.TheVariants as draft
+use Rattle.cabinet_core.specs.declared.refusal.CabinetRefusal.TheVariants as cabinet
 
 -- a line of the table: a refusal's number, its name, and the status code of an HTTP answer that shows it (RFC 9110)
 pub record RefusalLine : Type 0 where

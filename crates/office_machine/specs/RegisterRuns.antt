@@ -1,22 +1,11 @@
 -- The register of an office over a run of commands: which orders are open, and what is in stock.
 use Rattle.std.specs.Prelude.{◌≡◌, ℕ, ◌+◌, Bool, true, false, ◌==◌, cond, List, [], ◌∷◌, ◌++◌}
-use Rattle.std.specs.Cmp.Lexicographic.{slice_cmp}
-use Rattle.std.specs.FinMap.{find}
-use Rattle.std.specs.List.{list_any}
-use Rattle.std.specs.Ordering.{nat_cmp}
+use Rattle.std.specs.{Cmp.Lexicographic.slice_cmp, FinMap.find, List.list_any, Ordering.nat_cmp}
 use Rattle.cabinet_core.specs.Cabinet.{Line, added as added_line, same as same_line, refused as refused_line, on_hand}
-use Rattle.cabinet_core.specs.declared.command.RecordCommand.{RecordCommand}
-use Rattle.cabinet_core.specs.Orders.{is_open_at}
-use Rattle.cabinet_core.specs.Register.{Register}
-use Rattle.cabinet_core.specs.Runs.{open_by, received_by, spent_by}
-use Rattle.cabinet_core.specs.Step.{line_at, with_record}
-use Rattle.cabinet_core.specs.Stock.{pieces}
-use Rattle.office_machine.specs.Office.{Office}
-use Rattle.office_machine.specs.Step.{Run}
-use Rattle.office_machine.specs.declared.command.Command.{Command}
-use Rattle.office_machine.specs.declared.command.Command.TheVariants as command
-use Rattle.office_machine.specs.declared.reply.Reply.{Reply}
+use Rattle.cabinet_core.specs.{declared.command.RecordCommand.RecordCommand, Orders.is_open_at, Register.Register, Runs.open_by, Runs.received_by, Runs.spent_by, Step.line_at, Step.with_record, Stock.pieces}
+use Rattle.office_machine.specs.{Office.Office, Step.Run, declared.command.Command.Command, declared.reply.Reply.Reply}
 use Rattle.office_machine.specs.declared.reply.Reply.TheVariants.{Added, Imported, OpenOrders, Stock}
+use Rattle.office_machine.specs.declared.command.Command.TheVariants as command
 
 -- ---- accepted records
 

@@ -1,13 +1,7 @@
 -- Imports that are sent again over a run of commands.
 use Rattle.std.specs.Prelude.{◌≡◌, ◌⊎◌, ℕ, List, [], ◌∷◌, length}
 use Rattle.cabinet_core.specs.declared.command.RecordCommand.{RecordCommand}
-use Rattle.office_machine.specs.Office.{Office}
-use Rattle.office_machine.specs.Step.{Run}
-use Rattle.office_machine.specs.declared.command.Command.{Command}
-use Rattle.office_machine.specs.declared.command.Command.TheVariants.{Import}
-use Rattle.office_machine.specs.declared.refusal.Refusal.TheVariants.{Unavailable}
-use Rattle.office_machine.specs.declared.reply.Reply.{Reply}
-use Rattle.office_machine.specs.declared.reply.Reply.TheVariants.{Imported, Refused}
+use Rattle.office_machine.specs.{Office.Office, Step.Run, declared.command.Command.Command, declared.command.Command.TheVariants.Import, declared.refusal.Refusal.TheVariants.Unavailable, declared.reply.Reply.Reply, declared.reply.Reply.TheVariants.Imported, declared.reply.Reply.TheVariants.Refused}
 
 -- the import adds none of the records, since each is recorded already, or it is answered Unavailable; and the office
 -- is as it was

@@ -1,35 +1,21 @@
 -- One step of the office machine, and its runs.
 use Rattle.std.specs.Prelude.{◌≡◌, ◌⊎◌, ℕ, ◌+◌, Bool, true, false, List, [], ◌∷◌, ◌==◌, ◌&&◌, if◌then◌else◌, map, Option, Some, None, is_some, Result, Ok, Err}
-use Rattle.std.specs.Option.{option_map}
-use Rattle.std.specs.Str.{bytes_eq}
+use Rattle.std.specs.{Option.option_map, Str.bytes_eq}
 use Rattle.std.specs.FinMap.{get, insert, len, entries}
 use Rattle.signal_rules.specs.Violations.{violations_of}
 use Rattle.draft_core.specs.Transaction.{TimingSide, Draft, state_of, verdict_of, table_line}
-use Rattle.draft_core.specs.declared.step.Step.TheVariants as step
 use Rattle.draft_core.specs.declared.refusal.DraftRefusal.{DraftRefusal}
-use Rattle.draft_core.specs.declared.refusal.DraftRefusal.TheVariants as draft
 use Rattle.cabinet_core.specs.Cabinet.{Line, added as added_line, same as same_line, refused as refused_line}
-use Rattle.cabinet_core.specs.Overdue.{Listed, last_at, overdue_list}
-use Rattle.cabinet_core.specs.declared.command.RecordCommand.{RecordCommand}
-use Rattle.cabinet_core.specs.declared.command.RecordCommand.TheVariants as register
-use Rattle.cabinet_core.specs.declared.overdue_inspections.Seen.{Seen}
-use Rattle.cabinet_core.specs.declared.refusal.CabinetRefusal.{CabinetRefusal}
-use Rattle.cabinet_core.specs.declared.refusal.CabinetRefusal.TheVariants as cabinet
-use Rattle.cabinet_core.specs.Orders.{open_at}
-use Rattle.cabinet_core.specs.Register.{Register, records_at}
-use Rattle.cabinet_core.specs.Step.{line_at, with_record, after_record}
-use Rattle.cabinet_core.specs.Stock.{stock_of}
-use Rattle.office_machine.specs.declared.reply.CabinetShown.{CabinetShown}
-use Rattle.office_machine.specs.declared.command.Command.{Command}
-use Rattle.office_machine.specs.declared.command.Command.TheVariants as command
-use Rattle.office_machine.specs.declared.reply.Reply.{Reply}
+use Rattle.cabinet_core.specs.{Overdue.Listed, Overdue.last_at, Overdue.overdue_list, declared.command.RecordCommand.RecordCommand, declared.overdue_inspections.Seen.Seen, declared.refusal.CabinetRefusal.CabinetRefusal, Orders.open_at, Register.Register, Register.records_at, Step.line_at, Step.with_record, Step.after_record, Stock.stock_of}
+use Rattle.office_machine.specs.{declared.reply.CabinetShown.CabinetShown, declared.command.Command.Command, declared.reply.Reply.Reply, declared.reply.IntersectionState.IntersectionState, declared.reply.RunningTiming.RunningTiming, declared.refusal.Refusal.Refusal, Refusal.line_of}
 use Rattle.office_machine.specs.declared.reply.Reply.TheVariants.{Added, Same, Moved, Imported, State as Shown, Timing as Running, Draft as Drafted, Cabinet, OpenOrders, Stock, Overdue, Refused}
-use Rattle.office_machine.specs.declared.reply.IntersectionState.{IntersectionState}
-use Rattle.office_machine.specs.declared.reply.RunningTiming.{RunningTiming}
-use Rattle.office_machine.specs.declared.refusal.Refusal.{Refusal}
-use Rattle.office_machine.specs.declared.refusal.Refusal.TheVariants as refusal
 use Rattle.office_machine.specs.Office.{Office, Intersection, IsSound, no_timing}
-use Rattle.office_machine.specs.Refusal.{line_of}
+use Rattle.draft_core.specs.declared.step.Step.TheVariants as step
+use Rattle.draft_core.specs.declared.refusal.DraftRefusal.TheVariants as draft
+use Rattle.cabinet_core.specs.declared.command.RecordCommand.TheVariants as register
+use Rattle.cabinet_core.specs.declared.refusal.CabinetRefusal.TheVariants as cabinet
+use Rattle.office_machine.specs.declared.command.Command.TheVariants as command
+use Rattle.office_machine.specs.declared.refusal.Refusal.TheVariants as refusal
 
 -- the office with an intersection more, or with another in its place
 abbrev pub with_intersection : Office → ℕ → Intersection → Office

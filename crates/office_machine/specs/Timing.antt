@@ -2,12 +2,8 @@
 use Rattle.std.specs.Prelude.{ℕ, Bool, true, false, ◌==◌, ◌&&◌, cond, List, [], ◌∷◌, Option, Some, None}
 use Rattle.signal_records.specs.TimingSet.{Rows}
 use Rattle.draft_core.specs.Transaction.{Draft}
-use Rattle.office_machine.specs.declared.command.Command.{Command}
+use Rattle.office_machine.specs.{declared.command.Command.Command, declared.reply.Reply.Reply, declared.reply.Reply.TheVariants.Moved, Office.Office, Office.side_at, Step.Run}
 use Rattle.office_machine.specs.declared.command.Command.TheVariants as command
-use Rattle.office_machine.specs.declared.reply.Reply.{Reply}
-use Rattle.office_machine.specs.declared.reply.Reply.TheVariants.{Moved}
-use Rattle.office_machine.specs.Office.{Office, side_at}
-use Rattle.office_machine.specs.Step.{Run}
 
 -- the command asks to commit the draft of this intersection
 abbrev pub is_commit_of : ℕ → Command → Bool

@@ -1,6 +1,6 @@
 use Rattle.std.proofs.Common.{◌≡◌, [], ap, sym, subst, ◌∙◌, arith, rules}
 use Rattle.std.specs.{Prelude.Ok}
-use Rattle.draft_core.specs.{Moves.Follows, Moves.move_to, Transaction.abandoned_from, Writes.commit_rows, declared.timing.Move.Move}
+use Rattle.draft_core.specs.{Moves.Follows, Moves.move_to, Transaction.abandoned_from, Drafting.commit_rows, declared.timing.Move.Move}
 use Rattle.signal_records.specs.{declared.state.Holding.TheVariants.Dropped, declared.state.Verdict.TheVariants.NotDone}
 use Rattle.draft_core.proofs.{Lines.held_by, Makes.settled_makes, Written.commit_rows_settles, Written.dropping_adds}
 use Rattle.draft_core.proofs.decide.abandon.Goals as goal

@@ -1,6 +1,6 @@
 use Rattle.std.proofs.Common.{◌+◌, ◌==◌, None, Ok, Some, ap, cond, subst, sym, ◌∙◌}
 use Rattle.signal_records.specs.{TimingSet.after_changes, declared.revision.TheConstants.LAST_REVISION, declared.state.Holding.TheVariants.Dropped, declared.state.Verdict.TheVariants.NotDone}
-use Rattle.draft_core.specs.{Moves.Follows, Moves.Makes, Moves.move_to, Writes.commit_rows}
+use Rattle.draft_core.specs.{Moves.Follows, Moves.Makes, Moves.move_to, Drafting.commit_rows}
 use Rattle.draft_core.proofs.{Lines.commit_line, Makes.settled_makes}
 use Rattle.draft_core.proofs.decide.commit_settled.Goals as goal
 

@@ -1,5 +1,5 @@
 use Rattle.std.proofs.Common.{◌≡◌, ◌++◌, drop, map}
-use Rattle.draft_core.specs.Writes as writes
+use Rattle.draft_core.specs.Drafting as writes
 use Rattle.draft_core.proofs.writes.commit_rows.Given as goal
 
 -- what is made, and what is made of the changes that are left
