@@ -1,32 +1,26 @@
-//! The transaction table as decisions: what each command changes, or why it is refused.
+//! The transaction table as decisions: what each command changes, or why it is refused; and a
+//! revision, by which a clerk takes a draft up, edits it, and commits it, in one step.
 
-ghost use Rattle.std.specs.Prelude.{◌≡◌, [], Some, IfErr, IfOk, List, ℕ};
+ghost use Rattle.std.specs.Prelude.{◌≡◌, [], IfErr, IfOk, List, ℕ};
 ghost use Rattle.signal_records.specs.TimingSet.{after_changes};
 ghost use Rattle.signal_rules.specs.Violations.{violations_of};
-ghost use Rattle.draft_core.specs.{Transaction.TimingSide, Transaction.Draft, Transaction.committed_with, DraftRows.RowsByKey, DraftRows.Stands, Moves.Follows, Steps.IsUnsettled, Steps.Takes, Drafting.commit_rows};
+ghost use Rattle.draft_core.specs.{Transaction.TimingSide, Transaction.Draft, Transaction.committed_with, DraftRows.RowsByKey, DraftRows.Stands, Moves.Follows, Revising.Revises, Steps.IsUnsettled, Steps.Takes, Drafting.commit_rows};
 ghost use Rattle.signal_records.specs.declared.state.DbState.TheVariants as state;
 ghost use Rattle.draft_core.specs.Moves as moves;
 
-use crate::drafting::draft_changes;
-use crate::holding::{state_after, test_owner};
-use crate::judging::verdict_on;
-use crate::overlaying::violations_after;
+use crate::drafting::{commit_rows, draft_changes};
+use crate::holding::{state_after, take_up, test_owner};
+use crate::overlaying::{verdict_on, violations_after};
 use crate::refusal::DraftRefusal;
 use crate::revision::Revision;
 use crate::state::{Holding, Stage, Verdict};
 use crate::step::Step;
 use crate::timing::{Move, Reach, Timing, TimingChanges};
-use crate::writes::commit_rows;
 use signal_records::{Change, Words};
 use std::alloc::Global;
 
 /// A move to the state that follows from who holds the draft.
-pub(crate) fn moves_to(
-    revision: Revision,
-    holder: Holding,
-    verdict: Verdict,
-    changes: TimingChanges,
-) -> Move
+fn moves_to(revision: Revision, holder: Holding, verdict: Verdict, changes: TimingChanges) -> Move
     ensures { result ≡ moves.move_to revision holder verdict changes }
 {
     Move {
@@ -50,9 +44,7 @@ fn stays(alloc: Global, timing: &Timing, holder: Holding, verdict: Verdict) -> M
 ///
 /// `NotNormal` in each state but Normal.
 pub fn begin(alloc: Global, timing: &Timing, _clerk: &Words<40>) -> Result<Move, DraftRefusal>
-    ensures takes { Takes Step.Begin timing.now _clerk.now result }
-    ensures owner { IfOk result (λ move. moves.next_holder move.holder _clerk.now timing.now.holder
-        ≡ Some (record { stage = Stage.Transaction; owner = _clerk.now })) }
+    ensures { Takes Step.Begin timing.now _clerk.now result }
 {
     match &timing.holder {
         None => Ok(stays(alloc, timing, Holding::Begun, Verdict::NotDone)),
@@ -138,11 +130,7 @@ pub fn commit(alloc: Global, timing: &Timing, clerk: &Words<40>) -> Result<Move,
 /// Makes these changes in the committed set, at the next revision, and drops the draft rows. That
 /// they break no rule was tested before. It is refused at the last revision, and for want of
 /// memory.
-pub(crate) fn commit_settled(
-    alloc: Global,
-    timing: &Timing,
-    settled: &[Change],
-) -> Result<Move, DraftRefusal>
+fn commit_settled(alloc: Global, timing: &Timing, settled: &[Change]) -> Result<Move, DraftRefusal>
     ensures line { (rows : RowsByKey) (side : TimingSide) (draft : Draft) (clerk : List ℕ) →
         Stands Reach.Plan timing.now rows side →
         after_changes timing.now.committed settled.now ≡ draft.set →
@@ -181,4 +169,30 @@ pub fn abandon(alloc: Global, timing: &Timing, _clerk: &Words<40>) -> Result<Mov
     };
     let changes = commit_rows(alloc, &timing.committed, timing.delta.as_slice(), &[])?;
     Ok(moves_to(timing.revision, Holding::Dropped, Verdict::NotDone, changes))
+}
+
+/// Revises the plan of an intersection. The clerk takes up the draft, or begins one where nobody
+/// holds one, and makes these edits to it. With `commit`, if it then breaks no rule, it becomes the
+/// committed set, and no draft row is written; else it stays open. The edits make of the draft, or
+/// of the committed set where there is none, what `settled` makes of the committed set, which
+/// breaks no rule; the keys of `settled` are in order.
+///
+/// `NotOwner` where another clerk holds the draft, `RevisionFull` for a commit at the last
+/// revision, and `NoMemory` where a growth was refused.
+pub fn revise(
+    alloc: Global,
+    timing: &Timing,
+    clerk: &Words<40>,
+    edits: &[Change],
+    settled: &[Change],
+    commit: bool,
+) -> Result<Move, DraftRefusal>
+    ensures { Revises timing.now clerk.now edits.now settled.now commit result }
+{
+    let holder = take_up(&timing.holder, clerk)?;
+    if commit && violations_after(alloc, &timing.committed, settled)?.is_empty() {
+        return commit_settled(alloc, timing, settled);
+    }
+    let rows = draft_changes(alloc, timing, edits)?;
+    Ok(moves_to(timing.revision, holder, Verdict::NotDone, rows))
 }

@@ -5,21 +5,16 @@ pub mod changes;
 pub mod decide;
 mod drafting;
 mod holding;
-mod judging;
 mod overlaying;
 pub mod refusal;
-mod revising;
 pub mod step;
 pub mod timing;
-mod writes;
 
 pub use changes::Changes;
-pub use decide::{abandon, begin, check, commit, edit, reopen, verify};
+pub use decide::{abandon, begin, check, commit, edit, reopen, revise, verify};
 pub use holding::next_holder;
-pub use judging::verdict;
-pub use overlaying::{copy_change, overlay};
+pub use overlaying::{copy_change, overlay, verdict};
 pub use refusal::DraftRefusal;
-pub use revising::revise;
 pub use signal_records::{
     DbState, Holder, Holding, LAST_REVISION, Revision, Stage, Verdict, revision, state,
 };

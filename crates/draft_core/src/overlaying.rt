@@ -1,11 +1,16 @@
-//! A set with changes made to it, and the violations of that set.
+//! A set with changes made to it, the violations of that set, and the verdict on a draft.
 
 ghost use Rattle.std.specs.Prelude.{◌≡◌, [], length, map, IfOk};
 ghost use Rattle.std.specs.List.{flat_map};
 ghost use Rattle.signal_records.specs.TimingSet.{after_changes};
 ghost use Rattle.signal_rules.specs.{Counts.RisesAtMost, Touched.IsRightOnTouched, Touched.touched_subjects, Violations.violations_of};
 ghost use Rattle.signal_records.specs.ChangedRows as rows;
+ghost use Rattle.signal_records.specs.declared.state.Stage.TheVariants as stage;
+ghost use Rattle.draft_core.specs.{Transaction.TimingSide, DraftRows.RowsByKey, DraftRows.Stands};
+ghost use Rattle.draft_core.specs.Transaction as table;
 
+use crate::state::{Stage, Verdict};
+use crate::timing::{Reach, Timing};
 use signal_records::{Change, Key, NoMemory, TimingSet, changed_key};
 use signal_rules::{Judge, Tally, Violation, violations_touched};
 use std::alloc::Global;
@@ -85,4 +90,34 @@ pub(crate) fn violations_after(
 {
     let mut tally = Tally::new();
     answers_after(alloc, committed, changes, &mut tally)
+}
+
+/// The verdict on the draft of an intersection whose committed set breaks no rule. It is computed
+/// from the draft each time, and never stored. It is `NotDone` where there is no draft or the draft
+/// was not checked. `NoMemory` means that a growth was refused.
+pub fn verdict(alloc: Global, timing: &Timing) -> Result<Verdict, NoMemory>
+    ensures { (rows : RowsByKey) (side : TimingSide) → Stands Reach.Plan timing.now rows side →
+        violations_of side.committed ≡ [] →
+        IfOk result (λ verdict. verdict ≡ table.verdict_of side.draft) }
+{
+    let Some(holder) = &timing.holder else {
+        return Ok(Verdict::NotDone);
+    };
+    match holder.stage {
+        Stage::Transaction | Stage::Verify => Ok(Verdict::NotDone),
+        Stage::Done => {
+            let found = violations_after(alloc, &timing.committed, timing.delta.as_slice())?;
+            Ok(verdict_on(found.as_slice()))
+        }
+    }
+}
+
+/// The verdict on a checked draft with these violations.
+pub(crate) fn verdict_on(found: &[Violation]) -> Verdict
+    ensures { result ≡ table.verdict_on stage.Done found.now }
+{
+    match found {
+        [] => Verdict::DoneWithNoError,
+        _ => Verdict::DoneWithError,
+    }
 }

@@ -71,6 +71,6 @@ module _ {timing : Timing} {rows : RowsByKey} {side : TimingSide} {edit : PlanEd
 
   pub asks_idle : timing.holder ≡ None → settled ≡ [] → IsCommittedAlready edit side
   asks_idle free none = (
-    free_of stands (λ held. held ≡ None) free (λ e. refl),
+    free_of stands free,
     sym settled_make.make ∙ ap (after_changes side.committed) none,
   )

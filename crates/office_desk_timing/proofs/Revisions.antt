@@ -9,7 +9,6 @@ use Rattle.signal_values.specs.Words.{AreWords}
 use Rattle.draft_core.specs.Moves.{Follows, draft_writes, drafted_in}
 use Rattle.draft_core.specs.Revising.{Revises, WritesRows, base_of, committing, lines_of, revision_steps, taking_up}
 use Rattle.draft_core.specs.{DraftRows.RowsByKey, DraftRows.Stands, Transaction.TimingSide, declared.refusal.DraftRefusal.DraftRefusal, declared.step.Step.TheVariants.Edit, declared.timing.Move.Move, declared.timing.Reach.TheVariants.Plan}
-use Rattle.draft_core.proofs.OnlyChanges.{among_within}
 use Rattle.office_machine.specs.{Office.Intersection, Office.Office, Office.side_at, Office.side_of, declared.reply.Reply.Reply}
 use Rattle.office_machine.specs.declared.refusal.Refusal.TheVariants as refusal
 use Rattle.office_machine.specs.declared.reply.Reply.TheVariants.{Moved, Refused, Same}
@@ -119,7 +118,7 @@ module _ (is_honest : Type 0) (tables : Content) (id : ℕ) (clerk : List ℕ) (
               let sound = side_sound at.0 (sound_there tables office id at.0 stands at.1) in
               taken busy (Ok move) revises office stands at.0 at.1 at.2 _ _
               (goes tables office id clerk at.0 found stands at.1 at.2 move _
-              (among_within (drafted_in move.changes) edits revises.writes.drafts plans.within)
+              (revises.writes.drafts plans.within)
               (λ next. lines_keep clerk words next (revision_steps at.0.timing edits edit.commits) at.0.timing
               (revision_within at.0.timing.draft edits edit.commits _ plans.within) sound));
           writes = λ honest office stands.

@@ -26,7 +26,6 @@ use Rattle.office_machine.specs.Step.{answered, transacted, moved, refusal_of_dr
 use Rattle.office_machine.specs.Office.{Office, Intersection, IsSoundIntersection}
 use Rattle.office_machine.specs.declared.reply.{Reply.Reply, Reply.TheVariants.Moved, Reply.TheVariants.Refused}
 use Rattle.office_machine.specs.declared.refusal.Refusal.TheVariants as refusal
-use Rattle.draft_core.proofs.OnlyChanges.{among_within}
 use Rattle.office_tables_decisions.proofs.Decisions.{accepted_decides, refuses_so, told_decides, unknown_decides}
 use Rattle.office_desk_timing.proofs.{AddedRows.move_news, Keeps.IsSoundSide, Keeps.line_keeps, Keeps.side_sound, Keeps.sound_intersection, Stands.sound_with, Moved.move_stands, Moved.with_timing_side, Shown.found_none, Shown.found_there, Shown.sound_there}
 
@@ -249,7 +248,7 @@ transact_decides is_honest tables id clerk step found (Ok move)
     let at = found_there (reach_of step) tables office id found stands (finds honest).0 in
     let sound = sound_there tables office id at.0 stands at.1 in
     moves tables office id clerk step at.0 found stands at.1 sound at.2 words within move (table_line step clerk at.0.timing)
-    (among_within (drafted_in move.changes) (asked_changes step) takes.writes.drafts within) refl
+    (takes.writes.drafts within) refl
     (takes.line (drafts_at stands.stand id) at.0.timing at.2.timing_stands (relied_on step at.0.timing sound.no_violations)))
     (λ honest other. move_writes tables id clerk step (moved_row found clerk move) found move other (finds honest).1 takes.writes)
     (λ honest. move_news (reach_of step) tables id found (moved_row found clerk move) move.changes (finds honest).1 takes.writes.news)

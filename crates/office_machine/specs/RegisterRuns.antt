@@ -39,16 +39,10 @@ accepted_of office command reply = cond (is_accepted reply) (records_asked offic
 
 -- the records that were brought in over a run, in their order
 abbrev pub records_accepted : (first : Office) (commands : List Command) (replies : List Reply) (last : Office) → Run first commands replies last → List RecordCommand
-records_accepted first [] [] last run = []
 records_accepted first (command ∷ commands) (reply ∷ replies) last run = accepted_of first command reply ++ records_accepted run.0 commands replies last run.2
-records_accepted first [] (reply ∷ replies) last run = []
-records_accepted first (command ∷ commands) [] last run = []
+records_accepted first _ _ last run = []
 
 -- ---- what accepted records make of the register
-
--- the order with this number on an intersection of an office exists and is open
-abbrev pub is_open_in : Office → ℕ → ℕ → Bool
-is_open_in office id n = is_open_at office.register id n
 
 -- ---- what the replies show of the register
 
@@ -65,23 +59,21 @@ pieces_in stock code = on_hand (find (slice_cmp nat_cmp) code stock)
 -- plus those received since
 abbrev pub ShowsAccepted : Office → List RecordCommand → Command → Reply → Type 0
 ShowsAccepted first so_far (command.OpenOrders id) (OpenOrders numbers) =
-    (n : ℕ) → is_among_numbers numbers n ≡ open_by id n (is_open_in first id n) so_far
+    (n : ℕ) → is_among_numbers numbers n ≡ open_by id n (is_open_at first.register id n) so_far
 ShowsAccepted first so_far command.Stock (Stock stock) =
     (code : List ℕ) → pieces_in stock code + spent_by code so_far ≡ pieces first.register code + received_by code so_far
 ShowsAccepted first so_far _ _ = Unit {0}
 
 -- each reply of a run shows the records that were accepted before it
 abbrev pub ShowAccepted : Office → List RecordCommand → (now : Office) (commands : List Command) (replies : List Reply) (last : Office) → Run now commands replies last → Type 0
-ShowAccepted first so_far now [] [] last run = Unit {0}
 ShowAccepted first so_far now (command ∷ commands) (reply ∷ replies) last run =
     ShowsAccepted first so_far command reply × ShowAccepted first (so_far ++ accepted_of now command reply) run.0 commands replies last run.2
-ShowAccepted first so_far now [] (reply ∷ replies) last run = Unit {0}
-ShowAccepted first so_far now (command ∷ commands) [] last run = Unit {0}
+ShowAccepted first so_far now _ _ last run = Unit {0}
 
 -- an order is open after it was opened, not open after it was closed, else as before; and for each part, what is on
 -- hand plus what was used is what was on hand plus what was received: at the end, and in each reply that shows it
 pub record RegisterRuns (first : Office) (commands : List Command) (replies : List Reply) (last : Office) (run : Run first commands replies last) : Type 0 where
-  pub orders : (id n : ℕ) → is_open_in last id n ≡ open_by id n (is_open_in first id n) (records_accepted first commands replies last run)
+  pub orders : (id n : ℕ) → is_open_at last.register id n ≡ open_by id n (is_open_at first.register id n) (records_accepted first commands replies last run)
   pub stock : (code : List ℕ) →
       pieces last.register code + spent_by code (records_accepted first commands replies last run) ≡ pieces first.register code + received_by code (records_accepted first commands replies last run)
   pub shown : ShowAccepted first [] first commands replies last run

@@ -10,17 +10,13 @@ IsRepeat office records reply next = ((reply ≡ Imported 0 (length records)) �
 
 -- each import of these records in a run is a repeat
 abbrev pub AreRepeats : List RecordCommand → (first : Office) (commands : List Command) (replies : List Reply) (last : Office) → Run first commands replies last → Type 0
-AreRepeats records first [] [] last run = Unit {0}
 AreRepeats records first (command ∷ commands) (reply ∷ replies) last run =
     (command ≡ Import records → IsRepeat first records reply run.0) × AreRepeats records run.0 commands replies last run.2
-AreRepeats records first [] (reply ∷ replies) last run = Unit {0}
-AreRepeats records first (command ∷ commands) [] last run = Unit {0}
+AreRepeats records first _ _ last run = Unit {0}
 
 -- once an import of a run was accepted, each further import of its records is a repeat
 abbrev pub Repeats : (first : Office) (commands : List Command) (replies : List Reply) (last : Office) → Run first commands replies last → Type 0
-Repeats first [] [] last run = Unit {0}
 Repeats first (command ∷ commands) (reply ∷ replies) last run =
     ((records : List RecordCommand) (added same : ℕ) → command ≡ Import records → reply ≡ Imported added same → AreRepeats records run.0 commands replies last run.2)
     × Repeats run.0 commands replies last run.2
-Repeats first [] (reply ∷ replies) last run = Unit {0}
-Repeats first (command ∷ commands) [] last run = Unit {0}
+Repeats first _ _ last run = Unit {0}

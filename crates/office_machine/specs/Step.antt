@@ -209,12 +209,10 @@ Step office command reply next = ((reply ≡ Refused refusal.Unavailable) × (ne
 abbrev pub Run : Office → List Command → List Reply → Office → Type 0
 Run office [] [] last = last ≡ office
 Run office (command ∷ commands) (reply ∷ replies) last = (mid : Office) × Step office command reply mid × Run mid commands replies last
-Run office [] (reply ∷ replies) last = ⊥
-Run office (command ∷ commands) [] last = ⊥
+Run office _ _ last = ⊥
 
 -- every office of a run is sound: the first, those in between and the last
 abbrev pub AreSound : (first : Office) (commands : List Command) (replies : List Reply) (last : Office) → Run first commands replies last → Type 0
 AreSound first [] [] last run = IsSound first
 AreSound first (command ∷ commands) (reply ∷ replies) last run = IsSound first × AreSound run.0 commands replies last run.2
-AreSound first [] (reply ∷ replies) last run = Unit {0}
-AreSound first (command ∷ commands) [] last run = Unit {0}
+AreSound first _ _ last run = Unit {0}

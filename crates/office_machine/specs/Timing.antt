@@ -22,8 +22,6 @@ set_of_draft (Some draft) instead = draft.set
 
 -- the draft just before the last accepted commit of the intersection, or what ran before
 abbrev pub running_plan : ℕ → Rows → (first : Office) (commands : List Command) (replies : List Reply) (last : Office) → Run first commands replies last → Rows
-running_plan id before first [] [] last run = before
 running_plan id before first (command ∷ commands) (reply ∷ replies) last run =
     running_plan id (cond (is_commit_of id command && is_moved reply) (set_of_draft (side_at first id).draft before) before) run.0 commands replies last run.2
-running_plan id before first [] (reply ∷ replies) last run = before
-running_plan id before first (command ∷ commands) [] last run = before
+running_plan id before first _ _ last run = before

@@ -1,8 +1,8 @@
 //! Open orders as lists show them, each with its intersection.
 
-ghost use Rattle.std.specs.Prelude.{◌≡◌, ◌++◌, OnOk, IfOk, filter, map};
+ghost use Rattle.std.specs.Prelude.{◌≡◌, ◌++◌, OnOk, filter, map};
 ghost use Rattle.cabinet_core.specs.Orders.{is_open};
-ghost use Rattle.office_machine.specs.Orders.{named_orders, open_orders, order_named, order_on};
+ghost use Rattle.office_machine.specs.Orders.{order_named, order_on};
 
 use crate::reply::CabinetShown;
 use cabinet_core::Order;
@@ -25,7 +25,8 @@ pub struct NamedOrder {
 /// Appends the open orders of a cabinet, in the order of their numbers. After `NoMemory` some may
 /// be appended.
 pub fn add_open_orders(found: &mut Vec<OpenOrder>, cabinet: &CabinetShown) -> Result<(), NoMemory>
-    ensures { OnOk result (found.new.items ≡ found.old.items ++ open_orders cabinet.now) }
+    ensures { OnOk result (found.new.items ≡ found.old.items
+        ++ map (order_on cabinet.now.id) (filter is_open cabinet.now.view.orders)) }
 {
     for order in cabinet.view.orders.as_slice() {
         if order.closing.is_none() {
@@ -37,18 +38,6 @@ pub fn add_open_orders(found: &mut Vec<OpenOrder>, cabinet: &CabinetShown) -> Re
         }
     }
     Ok(())
-}
-
-/// An order with the number and the name of its intersection.
-fn order_named(name: &Words<120>, id: InterId, order: &Order) -> Result<NamedOrder, NoMemory>
-    ensures { IfOk result (λ named. named ≡ order_named name.now id order.now) }
-{
-    let name = name.clone()?;
-    let order = order.clone()?;
-    Ok(NamedOrder {
-        name,
-        listed: OpenOrder { id, order },
-    })
 }
 
 /// Appends the open ones among an intersection's orders, in their order, each with the number and
@@ -65,20 +54,13 @@ pub fn add_named(
     for order in orders {
         let is_open = order.closing.is_none();
         if is_open {
-            found.push(order_named(name, id, order)?)?;
+            let name = name.clone()?;
+            let order = order.clone()?;
+            found.push(NamedOrder {
+                name,
+                listed: OpenOrder { id, order },
+            })?;
         }
     }
     Ok(())
-}
-
-/// Appends the open orders of a cabinet, in the order of their numbers, each with the number and
-/// the name of its intersection. After `NoMemory` some may be appended.
-pub fn add_named_orders(
-    found: &mut Vec<NamedOrder>,
-    name: &Words<120>,
-    cabinet: &CabinetShown,
-) -> Result<(), NoMemory>
-    ensures { OnOk result (found.new.items ≡ found.old.items ++ named_orders name.now cabinet.now) }
-{
-    add_named(found, name, cabinet.id, cabinet.view.orders.as_slice())
 }

@@ -27,23 +27,13 @@ pub enum Refusal {
     Damaged,
 }
 
-/// A line of the table of refusals.
-#[derive(Clone, Copy)]
-pub struct RefusalLine {
-    pub number: u32,
-    pub name: &'static str,
-    /// The status code of an HTTP answer (RFC 9110).
-    pub status: u16,
-}
-
 impl Refusal {
-    /// The refusal's line of the table.
-    fn line(self) -> RefusalLine
-        ensures number { result.number ≡ (line_of self).number }
-        ensures name { result.name.now ≡ (line_of self).name }
-        ensures status { result.status ≡ (line_of self).status }
+    /// The refusal's number and name.
+    fn line(self) -> (u32, &'static str)
+        ensures number { result.0 ≡ (line_of self).number }
+        ensures name { result.1.now ≡ (line_of self).name }
     {
-        let (number, name) = match self {
+        match self {
             Refusal::UnknownIntersection => (10, "UnknownIntersection"),
             Refusal::IntersectionDiffers => (11, "IntersectionDiffers"),
             Refusal::Draft(why) => (why.number(), why.name()),
@@ -51,11 +41,6 @@ impl Refusal {
             Refusal::ImportRow { .. } => (30, "ImportRow"),
             Refusal::Unavailable => (90, "Unavailable"),
             Refusal::Damaged => (91, "Damaged"),
-        };
-        RefusalLine {
-            number,
-            name,
-            status: self.status(),
         }
     }
 
@@ -63,14 +48,14 @@ impl Refusal {
     pub fn number(self) -> u32
         ensures { result ≡ (line_of self).number }
     {
-        self.line().number
+        self.line().0
     }
 
     /// The refusal's name, as answers show it.
     pub fn name(self) -> &'static str
         ensures { result.now ≡ (line_of self).name }
     {
-        self.line().name
+        self.line().1
     }
 
     /// The status code of an HTTP answer that shows the refusal: 404, 409, 500 or 503 (RFC 9110).

@@ -8,7 +8,7 @@ use crate::reporting::Report;
 use cabinet_core::Day;
 use office_desk::office::Office;
 use office_machine::intersections::ListedIntersection;
-use office_machine::orders::{NamedOrder, add_named_orders};
+use office_machine::orders::{NamedOrder, add_named};
 use office_machine::reply::CabinetShown;
 use office_tables_shelf::shelf::Shelf;
 use office_views::{IndexEntry, IndexShown, add_entry, index_page};
@@ -40,7 +40,8 @@ impl Gathered {
         warnings: usize,
     ) -> Result<(), NoMemory> {
         add_entry(&mut self.entries, listed, cabinet, warnings)?;
-        add_named_orders(&mut self.orders, &listed.name, cabinet)
+        let orders = cabinet.view.orders.as_slice();
+        add_named(&mut self.orders, &listed.name, cabinet.id, orders)
     }
 
     fn into_shown(self) -> IndexShown {

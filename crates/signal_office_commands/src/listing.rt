@@ -9,7 +9,7 @@ use cabinet_core::{Day, Order, OverdueRow, PartCode};
 use office_desk::office::Office;
 use office_files::overdue_text;
 use office_machine::intersections::ListedIntersection;
-use office_machine::orders::{NamedOrder, add_named, add_named_orders, add_open_orders};
+use office_machine::orders::{NamedOrder, add_named, add_open_orders};
 use office_machine::reply::CabinetShown;
 use office_tables_shelf::shelf::Shelf;
 use office_views::{
@@ -115,7 +115,7 @@ fn named_of(
     cabinet: &CabinetShown,
 ) -> Result<Vec<NamedOrder>, NoMemory> {
     let mut found = Vec::new(alloc);
-    add_named_orders(&mut found, name, cabinet)?;
+    add_named(&mut found, name, cabinet.id, cabinet.view.orders.as_slice())?;
     Ok(found)
 }
 

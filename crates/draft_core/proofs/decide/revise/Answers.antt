@@ -3,8 +3,8 @@ use Rattle.signal_rules.specs.{Violations.violations_of, declared.violation.Viol
 use Rattle.signal_records.specs.{TimingSet.after_changes, declared.state.Stage.TheVariants.Done}
 use Rattle.draft_core.specs.Moves.{Follows}
 use Rattle.draft_core.specs.Revising.{RevisionWrites, WritesRows, base_of, committing}
-use Rattle.draft_core.proofs.{Lines.none_found, Makes.edit_makes, News.revision_settles, Overlaid.found_in, Revisions.breaks_stay, Revisions.ends_with, Revisions.takes_up, revising.revise.Goals.else-commit-via-then-commit+in_ok-violations_after+else-is_empty, revising.revise.Goals.else-commit-via-else-commit}
-use Rattle.draft_core.proofs.revising.revise.Goals as goal
+use Rattle.draft_core.proofs.{Lines.none_found, Makes.edit_makes, News.revision_settles, Overlaid.found_in, Revisions.breaks_stay, Revisions.ends_with, Revisions.takes_up, decide.revise.Goals.else-commit-via-then-commit+in_ok-violations_after+else-is_empty, decide.revise.Goals.else-commit-via-else-commit}
+use Rattle.draft_core.proofs.decide.revise.Goals as goal
 
 pub returns-then-is_empty : goal.returns-then-is_empty
 returns-then-is_empty c =

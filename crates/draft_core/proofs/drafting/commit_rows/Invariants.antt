@@ -1,6 +1,6 @@
 use Rattle.std.proofs.Common.{◌≡◌, ◌++◌, drop, map}
 use Rattle.draft_core.specs.Drafting as writes
-use Rattle.draft_core.proofs.writes.commit_rows.Given as goal
+use Rattle.draft_core.proofs.drafting.commit_rows.Given as goal
 
 -- what is made, and what is made of the changes that are left
 abbrev pub invariant-loop-change : goal.invariant-loop-change

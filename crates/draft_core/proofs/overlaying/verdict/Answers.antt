@@ -3,7 +3,7 @@ use Rattle.signal_rules.specs.Violations.{violations_of}
 use Rattle.signal_records.specs.{TimingSet.after_changes, declared.state.Holder.Holder, declared.state.Stage.TheVariants.Done}
 use Rattle.draft_core.specs.Transaction.{verdict_on}
 use Rattle.draft_core.proofs.{Lines.held_by, Overlaid.draft_is, Overlaid.found_in}
-use Rattle.draft_core.proofs.judging.verdict.Goals as goal
+use Rattle.draft_core.proofs.overlaying.verdict.Goals as goal
 
 pub returns-in_ok-found-in-Done : goal.returns-in_ok-found-in-Done
 returns-in_ok-found-in-Done c = λ rows side stands sound.
