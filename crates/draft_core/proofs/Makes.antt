@@ -1,5 +1,5 @@
 -- That a move makes the next timing side.
-use Rattle.std.proofs.Common.{◌≡◌, ℕ, List, [], Some, None, refl, ap, sym, subst, subst₂, ◌∙◌}
+use Rattle.std.proofs.Common.{◌≡◌, ℕ, List, [], Some, None, refl, ap, sym, subst₂, ◌∙◌}
 use Rattle.signal_records.specs.{declared.state.DbState.TheVariants.Transaction as InTransaction, declared.state.Stage.TheVariants.Transaction, declared.key.Key.Key, declared.record.Change.Change, TimingSet.Rows, TimingSet.after_changes, declared.state.Stage.Stage, declared.state.Verdict.Verdict, declared.state.Holding.Holding, declared.state.Holding.TheVariants.Dropped, declared.state.Holding.TheVariants.Kept, declared.state.Verdict.TheVariants.NotDone as NotJudged}
 use Rattle.std.specs.{Option.option_map, FinMap.get}
 use Rattle.draft_core.specs.{declared.timing.Timing.Timing, declared.timing.Reach.Reach, declared.timing.Move.Move, declared.timing.TimingChange.TimingChange, Transaction.TimingSide, Transaction.Draft, Transaction.holder_of, Transaction.in_stage, Transaction.verdict_of, Transaction.with_draft, DraftRows.RowsByKey, DraftRows.Stands, DraftRows.row_at, DraftRows.overlaid_row, Moves.Makes, Moves.move_to, Moves.next_holder, Moves.state_after, Revising.base_from, Revising.base_of, Drafting.commit_rows, Drafting.DraftsChanges}
@@ -18,7 +18,7 @@ module _ {reach : Reach} {timing : Timing} {rows : RowsByKey} {side : TimingSide
       → move ≡ move_to timing.revision holding verdict written
       → Makes rows side clerk move (with_draft side next)
   draft_makes next clerk base changes written holding verdict move from set opens judged holds drafts is =
-      subst (λ m. Makes rows side clerk m (with_draft side next)) (sym is) (record {
+      rw is (record {
         same_revision = stands.same_revision;
         same_state = opens;
         same_verdict = judged;
@@ -43,31 +43,23 @@ module _ {reach : Reach} {timing : Timing} {rows : RowsByKey} {side : TimingSide
       (ap (λ d. next_holder (Kept stage) clerk (option_map holder_of d)) held)
       (nothing_drafted side.committed rows) is
 
-  -- the draft rows are dropped, where they were read, and changes are made in the committed set
+  -- the draft rows are dropped, where they were read, and changes make another committed set
   pub settled_makes : ((key : Key) → row_at timing.delta key ≡ rows key) → (settled : List Change)
-      (clerk : List ℕ) (move : Move) (revision : ℕ)
-      → move ≡ move_to revision Dropped NotJudged
-      (commit_rows timing.committed timing.delta settled)
-      → Makes rows side clerk move (record {
-        revision = revision;
-        committed = after_changes side.committed settled;
-        draft = None;
-      })
-  settled_makes read settled clerk move revision is =
-      let next : TimingSide = record {
-        revision = revision;
-        committed = after_changes side.committed settled;
-        draft = None;
-      } in
+      (set : Rows) (written : List TimingChange) (clerk : List ℕ) (move : Move) (revision : ℕ)
+      → move ≡ move_to revision Dropped NotJudged written
+      → written ≡ commit_rows timing.committed timing.delta settled
+      → after_changes side.committed settled ≡ set
+      → Makes rows side clerk move (record { revision = revision; committed = set; draft = None })
+  settled_makes read settled set written clerk move revision is made same =
       let wrote = commit_rows_settles timing.committed timing.delta settled in
       let none_left = λ (key : Key). wrote.left key (rows key) (λ e. sym (read key) ∙ e) in
-      subst (λ m. Makes rows side clerk m next) (sym is) (record {
+      rw (is, made) (record {
         same_revision = refl;
         same_state = refl;
         same_verdict = refl;
         same_holder = refl;
-        committed = λ key. get-after_changes settled side.committed key
-            ∙ sym (wrote.makes key (get side.committed key));
+        committed = λ key. ap (λ (s : Rows). get s key) (sym same)
+            ∙ get-after_changes settled side.committed key ∙ sym (wrote.makes key (get side.committed key));
         draft = none_left;
         only_changes = λ only key same. none_left key;
       })

@@ -1,9 +1,9 @@
 -- What the changes that commit and abandon write make of the rows, and how many they are.
-use Rattle.std.proofs.Common.{◌≡◌, List, [], ◌∷◌, map, length, Option, None, Some, refl, ◌∙◌, arith}
+use Rattle.std.proofs.Common.{◌≡◌, ◌+◌, List, [], ◌∷◌, map, length, Option, None, Some, refl, ap, ◌∙◌, arith}
 use Rattle.std.specs.{FinMap.get, List.AllByRecursion}
 use Rattle.signal_records.specs.{Row.key_of, TimingSet.Rows, declared.key.Key.Key, declared.record.Row.Row, declared.record.Change.Change, declared.record.Change.TheVariants.Put, declared.record.Change.TheVariants.Remove}
 use Rattle.draft_core.specs.DraftRows.{Said, silent, row_at, overlaid_row, said_at}
-use Rattle.draft_core.specs.Moves.{committed_after, committed_by, draft_writes, drafted_in, row_after, timing_writes}
+use Rattle.draft_core.specs.Moves.{committed_after, committed_by, draft_writes, drafted_in, row_after, said_after, timing_writes}
 use Rattle.draft_core.specs.{News.AddsNone, Drafting.commit_rows, Drafting.put_over, Drafting.settled_by, declared.timing.TimingChange.TimingChange, declared.timing.TimingChange.TheVariants.CommittedNew, declared.timing.TimingChange.TheVariants.Committed}
 use Rattle.draft_core.proofs.Overlaid.{overlaid_row-overlaid_row}
 
@@ -25,6 +25,13 @@ settled_commits set change key row =
     settled_either (λ c one. committed_by one key row ≡ overlaid_row row (said_at c key)) set change
     refl (λ row none. refl)
 
+settled_writes : (set : Rows) (change : Change) (rest : List TimingChange)
+    → ((key : Key) (said : Said) → said_after (settled_by set change) key said ≡ said)
+    × (drafted_in (settled_by set change ∷ rest) ≡ drafted_in rest)
+    × (timing_writes (settled_by set change ∷ rest) ≡ timing_writes rest + 1)
+    × (draft_writes (settled_by set change ∷ rest) ≡ draft_writes rest)
+settled_writes set change rest = (λ key said. grind arith, grind arith, grind arith, grind arith)
+
 -- draft rows are dropped and changes made in the committed set; no draft row is left, where none stands but those
 pub record Settles (dropped changes : List Change) (written : List TimingChange) : Type 0 where
   pub makes : (key : Key) (row : Option Row)
@@ -45,24 +52,15 @@ settles set [] = record {
 }
 settles set (change ∷ changes) =
     let rest = settles set changes in
-    let makes = λ (c : Change) (key : Key) (row : Option Row).
-    rest.makes key (overlaid_row row (said_at c key))
-    ∙ overlaid_row-overlaid_row row (row_at changes key) (said_at c key) in
-    settled_either (λ c one. Settles [] (c ∷ changes) (one ∷ map (settled_by set) changes)) set change
-    (record {
-      makes = makes change;
-      left = rest.left;
-      drafts = rest.drafts;
-      timing = omega (arith, rest.timing);
-      draft = omega (arith, rest.draft);
-    })
-    (λ row none. record {
-      makes = makes (Put row);
-      left = rest.left;
-      drafts = rest.drafts;
-      timing = omega (arith, rest.timing);
-      draft = omega (arith, rest.draft);
-    })
+    let one = settled_writes set change (map (settled_by set) changes) in record {
+      makes = λ key row. rest.makes key _
+          ∙ ap (λ r. overlaid_row r (row_at changes key)) (settled_commits set change key row)
+          ∙ overlaid_row-overlaid_row row (row_at changes key) (said_at change key);
+      left = λ key said none. rest.left key _ (λ e. one.0 key said ∙ none e);
+      drafts = one.1 ∙ rest.drafts;
+      timing = omega (arith, one.2, rest.timing);
+      draft = omega (arith, one.3, rest.draft);
+    }
 
 pub commit_rows_settles : (set : Rows) (delta changes : List Change)
     → Settles delta changes (commit_rows set delta changes)

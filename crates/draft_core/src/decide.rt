@@ -65,12 +65,8 @@ pub fn edit(
 ) -> Result<Move, DraftRefusal>
     ensures { Takes (Step.Edit changes.now) timing.now clerk.now result }
 {
-    test_owner(
-        &timing.holder,
-        Stage::Transaction,
-        DraftRefusal::NotTransaction,
-        clerk,
-    )?;
+    let wrong = DraftRefusal::NotTransaction;
+    test_owner(&timing.holder, Stage::Transaction, wrong, clerk)?;
     let changes = draft_changes(alloc, timing, changes)?;
     let editing = Holding::Kept(Stage::Transaction);
     Ok(moves_to(timing.revision, editing, Verdict::NotDone, changes))
@@ -82,12 +78,8 @@ pub fn edit(
 pub fn verify(alloc: Global, timing: &Timing, clerk: &Words<40>) -> Result<Move, DraftRefusal>
     ensures { Takes Step.Verify timing.now clerk.now result }
 {
-    test_owner(
-        &timing.holder,
-        Stage::Transaction,
-        DraftRefusal::NotTransaction,
-        clerk,
-    )?;
+    let wrong = DraftRefusal::NotTransaction;
+    test_owner(&timing.holder, Stage::Transaction, wrong, clerk)?;
     let waiting = Holding::Kept(Stage::Verify);
     Ok(stays(alloc, timing, waiting, Verdict::NotDone))
 }
@@ -99,12 +91,8 @@ pub fn verify(alloc: Global, timing: &Timing, clerk: &Words<40>) -> Result<Move,
 pub fn check(alloc: Global, timing: &Timing, clerk: &Words<40>) -> Result<Move, DraftRefusal>
     ensures { Takes Step.Check timing.now clerk.now result }
 {
-    test_owner(
-        &timing.holder,
-        Stage::Verify,
-        DraftRefusal::NotVerify,
-        clerk,
-    )?;
+    let wrong = DraftRefusal::NotVerify;
+    test_owner(&timing.holder, Stage::Verify, wrong, clerk)?;
     let found = violations_after(alloc, &timing.committed, timing.delta.as_slice())?;
     let verdict = verdict_on(found.as_slice());
     Ok(stays(alloc, timing, Holding::Kept(Stage::Done), verdict))
