@@ -8,7 +8,7 @@ use Rattle.office_tables_shelf.specs.Cells.{Cell, rows_by, tree_rows, cells_cmp}
 use Rattle.office_tables_shelf.proofs.CellLemmas.{cells_total, cells_exact, find_entry, get_by, tied}
 use Rattle.office_tables_shelf.proofs.TreeLemmas.{entry_at, get_tree}
 use Rattle.office_tables_shelf.proofs.ListLemmas.{both, cells_of, entry, entries_filter, entries_in_order}
-use Rattle.office_tables_maps.specs.Stored.{ArePlaced, Stored}
+use Rattle.office_tables_maps.specs.Stored.{ArePlaced, Places, Stored}
 
 -- ---- the entries of a tree, in its order
 
@@ -61,31 +61,20 @@ module _ {K X : Type 0} (R : K → K → Ordering) (exact : (a b : K) → R a b 
   standing_at es k None h here = tt
   standing_at es k (Some x) h here = standing_found es k x h here
 
-module _ {K X : Type 0} (Stands : K → X → Type 0) where
-  abbrev All : List (K × X) → Type 0
-  All = AllByRecursion (λ e. Stands e.0 e.1)
-
-  pub standing_removed : (test : K → Bool) (es : List (K × X)) → All es → All (remove_entry test es)
+  pub standing_removed : (test : K → Bool) (es : List (K × X)) → AreStanding es
+      → AreStanding (remove_entry test es)
   standing_removed test [] h = tt
   standing_removed test (e ∷ es) h =
-      elim (test e.0) as (λ b. All (cond b es (e ∷ remove_entry test es))) [
+      elim (test e.0) as (λ b. AreStanding (cond b es (e ∷ remove_entry test es))) [
         | true ↦ h.1
         | false ↦ (h.0, standing_removed test es h.1)
       ]
 
-  pub standing_kept : (test : K × X → Bool) (es : List (K × X)) → All es → All (filter test es)
-  standing_kept test [] h = tt
-  standing_kept test (e ∷ es) h =
-      elim (test e) as (λ b. All (cond b (e ∷ filter test es) (filter test es))) [
-        | true ↦ (h.0, standing_kept test es h.1)
-        | false ↦ standing_kept test es h.1
-      ]
-
 -- each place and each record are within their limits
-pub within_each : {K Of X : Type 0} (kind : Stored K Of X) (es : List (K × X)) → ArePlaced kind es
-    → AllByRecursion (λ e. kind.is_place e.0 × kind.is_within e.1) es
-within_each kind [] h = tt
-within_each kind (e ∷ es) h = (h.0.1, within_each kind es h.1)
+pub within_each : {K X : Type 0} (places : Places K) (kind : Stored K X) (es : List (K × X))
+    → ArePlaced places kind es → AllByRecursion (λ e. places.is_place e.0 × kind.is_within e.1) es
+within_each places kind [] h = tt
+within_each places kind (e ∷ es) h = (h.0.1, within_each places kind es h.1)
 
 -- ---- an entry that is put after all others
 

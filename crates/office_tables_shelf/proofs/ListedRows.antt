@@ -7,7 +7,7 @@ use Rattle.office_tables_shelf.proofs.CellLemmas.{cells_exact, find_entry, is_un
 use Rattle.office_tables_shelf.proofs.ListLemmas.{all_in, entry, found_has, where_all}
 use Rattle.office_tables_shelf.specs.{Cells.Cell, Cells.cells_cmp, Content.Content, Content.rows_at, Damage.HasAnyDamagedIntersection, Rows.intersection_columns, Rows.intersection_key}
 use Rattle.office_tables_shelf.specs.Reads.{is_among, HasDamagedRow}
-use Rattle.office_tables_shelf.specs.Shelf.{IsIntersectionWithin, ListsIntersections}
+use Rattle.office_tables_shelf.specs.{CabinetReads.IsOfOne, Rows.IsIntersectionRow, Shelf.ListsIntersections}
 use Rattle.office_tables_shelf.specs.declared.rows.Table.{Table}
 use Rattle.office_tables_shelf.specs.declared.rows.Table.TheVariants as table
 use Rattle.office_tables_shelf.specs.declared.rows.IntersectionRow.{IntersectionRow}
@@ -48,9 +48,9 @@ module _ {X : Type 0} (t : Table) (Within : X → Type 0) (key columns : X → L
       damaged.no_row is.0 is.1 is.2 is.3
 
 pub intersections_whole : (tables : Content) (rows : List (ℕ × IntersectionRow))
-    → ListsIntersections tables rows → AllByRecursion IsIntersectionWithin rows
+    → ListsIntersections tables rows → AllByRecursion (IsOfOne IsIntersectionRow) rows
     → ¬ HasAnyDamagedIntersection tables
 intersections_whole tables rows lists =
-    listed_whole table.Intersection IsIntersectionWithin (λ e. intersection_key e.0)
+    listed_whole table.Intersection (IsOfOne IsIntersectionRow) (λ e. intersection_key e.0)
     (λ e. intersection_columns e.1) tables None rows
     (lists ∙ sym (where_all (entries tables.intersection)))

@@ -7,7 +7,7 @@ use Rattle.office_tables_shelf.specs.Cells.{Cell}
 use Rattle.office_tables_shelf.specs.Content.{Content}
 use Rattle.office_tables_shelf.specs.Reads.{HasDamagedRow}
 use Rattle.office_tables_shelf.specs.Rows.{intersection_key, intersection_columns, timing_key, timing_columns, draft_key, draft_columns, IsIntersectionRow}
-use Rattle.office_tables_shelf.specs.Shelf.{IsIntersectionWithin}
+use Rattle.office_tables_shelf.specs.CabinetReads.{IsOfOne}
 use Rattle.office_tables_shelf.specs.declared.rows.IntersectionRow.{IntersectionRow}
 use Rattle.office_tables_shelf.specs.declared.rows.Table.TheVariants as table
 
@@ -20,7 +20,7 @@ pub record HasDamagedIntersection (tables : Content) (id : ℕ) : Type 0 where
 -- a row of the intersection table is damaged: its cells are those of no number and row within their limits
 abbrev pub HasAnyDamagedIntersection : Content → Type 0
 HasAnyDamagedIntersection tables =
-    HasDamagedRow table.Intersection IsIntersectionWithin (λ e. intersection_key e.0)
+    HasDamagedRow table.Intersection (IsOfOne IsIntersectionRow) (λ e. intersection_key e.0)
     (λ e. intersection_columns e.1) tables None
 
 -- a row of the intersection in the timing table is no timing row within its limits, or stands under a key that is not its own

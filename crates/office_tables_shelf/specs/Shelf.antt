@@ -1,6 +1,5 @@
 -- What the contracts of a shelf say: what a call that reads keeps, and which intersections and rows of plans it gives.
 use Rattle.std.specs.Prelude.{◌≡◌, ℕ, List, map, length, Option, IsSome, Result, Ok, Err, IfOk, Vec, ⊤}
-use Rattle.std.specs.Int.{IsInRange}
 use Rattle.std.specs.List.{AllByRecursion}
 use Rattle.std.specs.Option.{option_map}
 use Rattle.std.specs.FinMap.{get, entries}
@@ -11,7 +10,7 @@ use Rattle.signal_records.specs.declared.record.Change.{Change}
 use Rattle.office_tables_shelf.specs.Cells.{Cell, TableRows, cells_cmp}
 use Rattle.office_tables_shelf.specs.Content.{Content}
 pub use Rattle.office_tables_shelf.specs.Content.{is_of}
-use Rattle.office_tables_shelf.specs.Rows.{intersection_key, intersection_columns, IsIntersectionRow, timing_key, timing_columns, draft_key, draft_columns}
+use Rattle.office_tables_shelf.specs.Rows.{intersection_key, intersection_columns, timing_key, timing_columns, draft_key, draft_columns}
 use Rattle.office_tables_shelf.specs.declared.rows.IntersectionRow.{IntersectionRow}
 use Rattle.office_tables_shelf.specs.declared.counts.WriteCounts.{WriteCounts}
 use Rattle.office_tables_shelf.specs.declared.shelf.ShelfFault.{ShelfFault}
@@ -55,10 +54,6 @@ rows_of id rows = where_key cells_cmp (is_of id) (entries rows)
 -- a row of an intersection stands under the number, be it a record or not
 abbrev pub IsThere : Content → ℕ → Type 0
 IsThere tables id = IsSome (get tables.intersection (intersection_key id))
-
--- the number is one of an intersection, 1 to 9999, and the row is within its limits
-abbrev pub IsIntersectionWithin : ℕ × IntersectionRow → Type 0
-IsIntersectionWithin e = IsInRange 1 9999 e.0 × IsIntersectionRow e.1
 
 -- the rows of all intersections, in the order of their numbers, are those of the list
 abbrev pub ListsIntersections : Content → List (ℕ × IntersectionRow) → Type 0
