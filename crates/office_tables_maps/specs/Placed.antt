@@ -1,7 +1,7 @@
 -- The tables that maps of records stand for, and what is known of the records in the maps.
 use Rattle.office_tables_shelf.specs.Content.{Content}
-use Rattle.office_tables_maps.specs.Records as kept
 use Rattle.office_tables_maps.specs.{Keys.plan_keys, Keys.record_keys, Keys.line_keys, Stored.ArePlaced, Stored.stored_rows, declared.maps.Maps.TheInside.Inside}
+use Rattle.office_tables_maps.specs.Records as kept
 
 -- the content of the tables that the maps stand for
 abbrev pub tables_of : Inside → Content

@@ -1,6 +1,6 @@
 -- How records of one kind are kept in a tree, each under its place, and the rows that they stand for.
-use Rattle.std.specs.{Prelude.{◌≡◌, List}, List.{AllByRecursion}, declared.cmp.Ordering.{Ordering}, declared.cmp.Ordering.TheVariants.{Equal}}
 use Rattle.office_tables_shelf.specs.Cells.{Cell, TableRows, cells_cmp, tree_rows}
+use Rattle.std.specs.{Prelude.{◌≡◌, List}, List.{AllByRecursion}, declared.cmp.Ordering.{Ordering}, declared.cmp.Ordering.TheVariants.{Equal}}
 
 -- places in a tree: the key cells of the row at each, and their limits
 pub record Places (K : Type 0) : Type 1 where

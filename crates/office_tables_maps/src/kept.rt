@@ -2,10 +2,9 @@
 //! records and to copy a tree, the same for every kind of record.
 
 ghost use Rattle.std.specs.Prelude.{◌≡◌, OnOk, IfOk, IfSome, map};
-ghost use Rattle.std.specs.FinMap as finite;
-ghost use Rattle.std.specs.List.{AllByRecursion};
-ghost use Rattle.std.specs.Option.{option_map};
+ghost use Rattle.std.specs.{List.AllByRecursion, Option.option_map};
 ghost use Rattle.office_tables_maps.specs.Stored.{ArePlaced, Stored, stored_rows};
+ghost use Rattle.std.specs.FinMap as finite;
 
 use crate::place::TreePlace;
 use signal_records::NoMemory;

@@ -1,7 +1,6 @@
 //! The tables of an office in memory.
 ghost use Rattle.std.specs.Prelude.{◌≡◌, IfOk};
-ghost use Rattle.office_tables_shelf.specs.Content.{no_content};
-ghost use Rattle.office_tables_shelf.specs.Counts.{no_writes};
+ghost use Rattle.office_tables_shelf.specs.{Content.no_content, Counts.no_writes};
 
 use crate::kept::{find, list_all};
 use crate::maps::Maps;

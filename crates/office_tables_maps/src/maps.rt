@@ -49,12 +49,7 @@ fn at<P>(place: P) -> P
 }
 
 impl Maps {
-    ghost use Rattle.office_tables_shelf.specs.CabinetReads.{HasAnyDamagedInspection, HasAnyDamagedOrder};
-    ghost use Rattle.office_tables_shelf.specs.OpenOrders.{orders_in, ReadsOpen};
-    ghost use Rattle.office_tables_shelf.specs.Overdue.{last_day_in, ReadsLast};
-    ghost use Rattle.office_tables_shelf.specs.Places.{FindsAt, IsOfPlace, place_of};
-    ghost use Rattle.office_tables_shelf.specs.Content.{no_content};
-    ghost use Rattle.office_tables_shelf.specs.Change.{changed, changed_by};
+    ghost use Rattle.office_tables_shelf.specs.{CabinetReads.HasAnyDamagedInspection, CabinetReads.HasAnyDamagedOrder, OpenOrders.orders_in, OpenOrders.ReadsOpen, Overdue.last_day_in, Overdue.ReadsLast, Places.FindsAt, Places.IsOfPlace, Places.place_of, Content.no_content, Change.changed, Change.changed_by};
 
     /// Tables without a row.
     pub fn new(alloc: Global) -> Maps

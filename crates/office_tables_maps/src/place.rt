@@ -1,8 +1,7 @@
 //! Places in trees, and those of intersections: under the number, and then by a key of their own.
 
 ghost use Rattle.std.specs.Prelude.{◌≡◌, IfOk};
-ghost use Rattle.office_tables_maps.specs.Keys.{AreKeyLaws, Keys};
-ghost use Rattle.office_tables_maps.specs.Stored.{AreLaws, Places};
+ghost use Rattle.office_tables_maps.specs.{Keys.AreKeyLaws, Keys.Keys, Stored.AreLaws, Stored.Places};
 
 use cabinet_core::PartCode;
 use signal_records::{InterId, Key, LineNo, PatternNo, PhaseNo, RecordNo};

@@ -2,12 +2,9 @@
 //! dropped.
 
 ghost use Rattle.std.specs.Prelude.{◌≡◌, ℕ, IfOk, map, length};
-ghost use Rattle.std.specs.List.{AllByRecursion};
-ghost use Rattle.std.specs.declared.ops.Bound.TheVariants.{Included};
-ghost use Rattle.office_tables_shelf.specs.Content.{rows_but};
-ghost use Rattle.office_tables_shelf.specs.Shelf.{rows_of};
-ghost use Rattle.office_tables_maps.specs.Records.{under};
-ghost use Rattle.office_tables_maps.specs.Stored.{ArePlaced, stored_rows};
+ghost use Rattle.std.specs.{List.AllByRecursion, declared.ops.Bound.TheVariants.Included};
+ghost use Rattle.office_tables_shelf.specs.{Content.rows_but, Shelf.rows_of};
+ghost use Rattle.office_tables_maps.specs.{Records.under, Stored.ArePlaced, Stored.stored_rows};
 
 use crate::kept::Kept;
 use crate::place::Ends;

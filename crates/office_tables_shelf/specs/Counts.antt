@@ -1,12 +1,8 @@
 -- How many rows of each table were written.
 use Rattle.std.specs.Prelude.{ℕ, ◌+◌, ◌-◌, ◌^◌, min, cond, List, [], ◌∷◌, refl, replicate, slice_index_or, slice_set}
 use Rattle.std.specs.Coded.{Coded, code_by, coded_list, coded_ℕ}
-use Rattle.office_tables_shelf.specs.Change.{row_writes, table_of}
-use Rattle.office_tables_shelf.specs.Content.{place_at}
+use Rattle.office_tables_shelf.specs.{Change.row_writes, Change.table_of, Content.place_at, declared.counts.WriteCounts.WriteCounts, declared.rows.RowChange.RowChange, declared.rows.Table.Table}
 pub use Rattle.office_tables_shelf.specs.Content.{is_same_table}
-use Rattle.office_tables_shelf.specs.declared.counts.WriteCounts.{WriteCounts}
-use Rattle.office_tables_shelf.specs.declared.rows.RowChange.{RowChange}
-use Rattle.office_tables_shelf.specs.declared.rows.Table.{Table}
 
 -- no row was written
 abbrev pub no_writes : WriteCounts

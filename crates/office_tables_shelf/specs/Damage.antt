@@ -1,14 +1,9 @@
 -- When a stored row of an intersection or of its timing is no record.
 use Rattle.std.specs.Prelude.{◌≡◌, ◌≢◌, ℕ, List, None, Some}
 use Rattle.std.specs.FinMap.{get}
-use Rattle.signal_records.specs.Row.{key_of}
-use Rattle.signal_records.specs.Within.{IsRowWithin, IsChangeWithin, current_limits}
-use Rattle.office_tables_shelf.specs.Cells.{Cell}
-use Rattle.office_tables_shelf.specs.Content.{Content}
-use Rattle.office_tables_shelf.specs.Reads.{HasDamagedRow}
+use Rattle.signal_records.specs.{Row.key_of, Within.IsRowWithin, Within.IsChangeWithin, Within.current_limits}
+use Rattle.office_tables_shelf.specs.{Cells.Cell, Content.Content, Reads.HasDamagedRow, CabinetReads.IsOfOne, declared.rows.IntersectionRow.IntersectionRow}
 use Rattle.office_tables_shelf.specs.Rows.{intersection_key, intersection_columns, timing_key, timing_columns, draft_key, draft_columns, IsIntersectionRow}
-use Rattle.office_tables_shelf.specs.CabinetReads.{IsOfOne}
-use Rattle.office_tables_shelf.specs.declared.rows.IntersectionRow.{IntersectionRow}
 use Rattle.office_tables_shelf.specs.declared.rows.Table.TheVariants as table
 
 -- the row of the intersection with this number is damaged: its cells are those of no row within its limits

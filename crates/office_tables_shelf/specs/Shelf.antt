@@ -1,20 +1,10 @@
 -- What the contracts of a shelf say: what a call that reads keeps, and which intersections and rows of plans it gives.
 use Rattle.std.specs.Prelude.{◌≡◌, ℕ, List, map, length, Option, IsSome, Result, Ok, Err, IfOk, Vec, ⊤}
-use Rattle.std.specs.List.{AllByRecursion}
-use Rattle.std.specs.Option.{option_map}
-use Rattle.std.specs.FinMap.{get, entries}
-use Rattle.std.specs.FinMap.Entries.{where_key}
-use Rattle.signal_records.specs.Row.{key_of}
-use Rattle.signal_records.specs.declared.record.Row.{Row}
-use Rattle.signal_records.specs.declared.record.Change.{Change}
-use Rattle.office_tables_shelf.specs.Cells.{Cell, TableRows, cells_cmp}
-use Rattle.office_tables_shelf.specs.Content.{Content}
+use Rattle.std.specs.{List.AllByRecursion, Option.option_map, FinMap.get, FinMap.entries, FinMap.Entries.where_key}
+use Rattle.signal_records.specs.{Row.key_of, declared.record.Row.Row, declared.record.Change.Change}
+use Rattle.office_tables_shelf.specs.{Cells.Cell, Cells.TableRows, Cells.cells_cmp, Content.Content, declared.rows.IntersectionRow.IntersectionRow, declared.counts.WriteCounts.WriteCounts, declared.shelf.ShelfFault.ShelfFault, declared.shelf.ShelfFault.TheVariants.Damaged}
 pub use Rattle.office_tables_shelf.specs.Content.{is_of}
 use Rattle.office_tables_shelf.specs.Rows.{intersection_key, intersection_columns, timing_key, timing_columns, draft_key, draft_columns}
-use Rattle.office_tables_shelf.specs.declared.rows.IntersectionRow.{IntersectionRow}
-use Rattle.office_tables_shelf.specs.declared.counts.WriteCounts.{WriteCounts}
-use Rattle.office_tables_shelf.specs.declared.shelf.ShelfFault.{ShelfFault}
-use Rattle.office_tables_shelf.specs.declared.shelf.ShelfFault.TheVariants.{Damaged}
 
 -- A call that only reads: the disk is no more honest than it was, and the tables, the counts and what a crash may leave stay.
 -- What a crash may leave stays also where a failure shut the database.

@@ -2,8 +2,7 @@ use Rattle.std.proofs.Common.{rules, ◌≡◌, ◌==◌, ◌∙◌, Some, ap, c
 use Rattle.std.specs.{BTreeMap.is_at, Map.lookup}
 use Rattle.cabinet_core.specs.Overdue.{greater}
 use Rattle.office_tables_shelf.specs.Overdue.{last_day_in}
-use Rattle.office_tables_shelf.proofs.NumberedMaps.{at_change, at_number}
-use Rattle.office_tables_shelf.proofs.TreeLemmas.{ranged_cmp}
+use Rattle.office_tables_shelf.proofs.{NumberedMaps.at_change, NumberedMaps.at_number, TreeLemmas.ranged_cmp}
 use Rattle.office_tables_shelf.proofs.overdue.add_day.Goals as goal
 
 pub returns : goal.returns

@@ -1,6 +1,6 @@
 use Rattle.std.proofs.Common.{rules, ◌≡◌, ◌∙◌}
-use Rattle.office_tables_maps.specs.Records as kept
 use Rattle.office_tables_maps.specs.{Keys.plan_keys, Keys.record_keys, Keys.line_keys, Stored.stored_rows, contracts.maps.Maps.the_view}
+use Rattle.office_tables_maps.specs.Records as kept
 use Rattle.office_tables_maps.proofs.maps.Maps.copy_tables.Goals as goal
 
 pub invariant_of-result : goal.invariant_of-result
