@@ -36,35 +36,11 @@ ranged_order a b = number_order a b ∙ sym (then_last (nat_cmp a b))
 pub number_exact : CmpEqualImpliesEq ranged_cmp
 number_exact a b tie = exact_unsigned a b (sym (then_last (nat_cmp a b)) ∙ tie)
 
--- a number up to another is not after it
-up_to : (a b : ℕ) → a ≤ b → is_le (nat_cmp a b) ≡ true
-up_to a b h = grind (arith, nat_tests)
-
--- a number from another on is not before it
-from : (a b : ℕ) → b ≤ a → is_lt (nat_cmp a b) ≡ false
-from a b h = grind (arith, nat_tests)
-
-number_up_to : (a b : ℕ) → a ≤ b → is_le (ranged_cmp a b) ≡ true
-number_up_to a b h = ap is_le (then_last (nat_cmp a b)) ∙ up_to a b h
-
-number_from : (a b : ℕ) → b ≤ a → is_lt (ranged_cmp a b) ≡ false
-number_from a b h = ap is_lt (then_last (nat_cmp a b)) ∙ from a b h
-
 -- ---- two parts of a key
 
 -- a number, and another part beside it
 abbrev pub beside : {K : Type 0} → (K → K → Ordering) → ℕ × K → ℕ × K → Ordering
 beside R a b = ordering_then (ranged_cmp a.0 b.0) (R a.1 b.1)
-
-not_after : (o rest : Ordering) → is_le o ≡ true → is_le rest ≡ true → is_le (ordering_then o rest) ≡ true
-not_after Less rest front back = refl
-not_after Equal rest front back = back
-not_after Greater rest front back = absurd (true≢false (sym front))
-
-not_before : (o rest : Ordering) → is_lt o ≡ false → is_lt rest ≡ false → is_lt (ordering_then o rest) ≡ false
-not_before Less rest front back = absurd (true≢false front)
-not_before Equal rest front back = back
-not_before Greater rest front back = refl
 
 -- ---- the keys
 
@@ -78,11 +54,11 @@ plan_keys = record {
 }
 
 first_key : (key : Key) → IsKeyWithin current_limits key → is_le (key_cmp (Phase 1) key) ≡ true
-first_key (Phase p) h = not_after (nat_cmp 1 p) Equal (up_to 1 p h.0) refl
+first_key (Phase p) h = grind (arith, nat_tests)
 first_key _ h = refl
 
 last_key : (key : Key) → IsKeyWithin current_limits key → is_lt (key_cmp (Pattern 48) key) ≡ false
-last_key (Pattern n) h = not_before (nat_cmp 48 n) Equal (from 48 n h.1) refl
+last_key (Pattern n) h = grind (arith, nat_tests)
 last_key _ h = refl
 
 -- keys of a plan do so
@@ -111,8 +87,8 @@ pub record_laws : AreKeyLaws ranged_cmp record_keys
 record_laws = record {
   ordered = last_order;
   exact = number_exact;
-  from_first = λ n h. number_up_to 1 n h.0;
-  to_last = λ n h. number_from 999_999 n h.1;
+  from_first = λ n h. grind (arith, nat_tests);
+  to_last = λ n h. grind (arith, nat_tests);
   last_is_key = (omega arith, omega arith);
 }
 
@@ -130,7 +106,7 @@ pub line_laws : AreKeyLaws (beside ranged_cmp) line_keys
 line_laws = record {
   ordered = λ a b i. ordering_then (ranged_order a.0 b.0 i) (last_order a.1 b.1 i);
   exact = exact_pairs ranged_cmp ranged_cmp number_exact number_exact;
-  from_first = λ k h. not_after _ _ (number_up_to 1 k.0 h.0.0) (number_up_to 1 k.1 h.1.0);
-  to_last = λ k h. not_before _ _ (number_from 999_999 k.0 h.0.1) (number_from 99 k.1 h.1.1);
+  from_first = λ k h. grind (arith, nat_tests);
+  to_last = λ k h. grind (arith, nat_tests);
   last_is_key = ((omega arith, omega arith), (omega arith, omega arith));
 }

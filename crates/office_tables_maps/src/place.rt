@@ -1,7 +1,9 @@
 //! Places in trees, and those of intersections: under the number, and then by a key of their own.
 
 ghost use Rattle.std.specs.Prelude.{◌≡◌, IfOk};
-ghost use Rattle.office_tables_maps.specs.{Keys.AreKeyLaws, Keys.Keys, Stored.AreLaws, Stored.Places};
+ghost use Rattle.office_tables_maps.specs.Keys.{AreKeyLaws, Keys, plan_keys, plan_laws, record_keys, record_laws, line_keys, line_laws};
+ghost use Rattle.office_tables_maps.specs.Records.{numbers, number_laws, under, under_laws, codes, code_laws, delivery_places, delivery_laws};
+ghost use Rattle.office_tables_maps.specs.Stored.{AreLaws, Places};
 
 use cabinet_core::PartCode;
 use signal_records::{InterId, Key, LineNo, PatternNo, PhaseNo, RecordNo};
@@ -21,8 +23,6 @@ pub(crate) trait TreePlace: Ord + Drop {
 }
 
 impl TreePlace for InterId {
-    ghost use Rattle.office_tables_maps.specs.Records.{numbers, number_laws};
-
     ghost places = { numbers };
 
     ghost laws = { number_laws };
@@ -33,8 +33,6 @@ impl TreePlace for InterId {
 }
 
 impl<K: Ends> TreePlace for (InterId, K) {
-    ghost use Rattle.office_tables_maps.specs.Records.{under, under_laws};
-
     ghost places = { under K.keys };
 
     ghost laws = { under_laws K.Ends.laws };
@@ -45,8 +43,6 @@ impl<K: Ends> TreePlace for (InterId, K) {
 }
 
 impl TreePlace for PartCode {
-    ghost use Rattle.office_tables_maps.specs.Records.{codes, code_laws};
-
     ghost places = { codes };
 
     ghost laws = { code_laws };
@@ -57,8 +53,6 @@ impl TreePlace for PartCode {
 }
 
 impl TreePlace for (PartCode, RecordNo) {
-    ghost use Rattle.office_tables_maps.specs.Records.{delivery_places, delivery_laws};
-
     ghost places = { delivery_places };
 
     ghost laws = { delivery_laws };
@@ -82,8 +76,6 @@ pub(crate) trait Ends: Ord + Copy + Drop {
 }
 
 impl Ends for Key {
-    ghost use Rattle.office_tables_maps.specs.Keys.{plan_keys, plan_laws};
-
     ghost keys = { plan_keys };
 
     ghost laws = { plan_laws };
@@ -96,8 +88,6 @@ impl Ends for Key {
 }
 
 impl Ends for RecordNo {
-    ghost use Rattle.office_tables_maps.specs.Keys.{record_keys, record_laws};
-
     ghost keys = { record_keys };
 
     ghost laws = { record_laws };
@@ -108,8 +98,6 @@ impl Ends for RecordNo {
 }
 
 impl Ends for (RecordNo, LineNo) {
-    ghost use Rattle.office_tables_maps.specs.Keys.{line_keys, line_laws};
-
     ghost keys = { line_keys };
 
     ghost laws = { line_laws };

@@ -1,5 +1,7 @@
 //! The records that the tables in memory keep, and where each stands.
 
+ghost use Rattle.office_tables_maps.specs.Records.{intersection_stored, timing_stored, draft_stored, inspection_stored, order_stored, used_stored, hand_stored, delivery_stored};
+
 use crate::kept::Kept;
 use cabinet_core::{Delivery, Hand, Inspection, Order, PartCode, UsedLine};
 use office_tables_shelf::rows::IntersectionRow;
@@ -7,8 +9,6 @@ use signal_records::{Change, InterId, Key, LineNo, RecordNo, Row, key_is_within}
 use std::alloc::AllocError;
 
 impl Kept for IntersectionRow {
-    ghost use Rattle.office_tables_maps.specs.Records.{intersection_stored};
-
     type Place = InterId;
 
     ghost stored = { intersection_stored };
@@ -19,8 +19,6 @@ impl Kept for IntersectionRow {
 }
 
 impl Kept for Row {
-    ghost use Rattle.office_tables_maps.specs.Records.{timing_stored};
-
     type Place = (InterId, Key);
 
     ghost stored = { timing_stored };
@@ -32,8 +30,6 @@ impl Kept for Row {
 
 /// A draft row stands under the key of the change that it keeps.
 impl Kept for Change {
-    ghost use Rattle.office_tables_maps.specs.Records.{draft_stored};
-
     type Place = (InterId, Key);
 
     ghost stored = { draft_stored };
@@ -50,8 +46,6 @@ impl Kept for Change {
 }
 
 impl Kept for Inspection {
-    ghost use Rattle.office_tables_maps.specs.Records.{inspection_stored};
-
     type Place = (InterId, RecordNo);
 
     ghost stored = { inspection_stored };
@@ -62,8 +56,6 @@ impl Kept for Inspection {
 }
 
 impl Kept for Order {
-    ghost use Rattle.office_tables_maps.specs.Records.{order_stored};
-
     type Place = (InterId, RecordNo);
 
     ghost stored = { order_stored };
@@ -74,8 +66,6 @@ impl Kept for Order {
 }
 
 impl Kept for UsedLine {
-    ghost use Rattle.office_tables_maps.specs.Records.{used_stored};
-
     type Place = (InterId, (RecordNo, LineNo));
 
     ghost stored = { used_stored };
@@ -87,8 +77,6 @@ impl Kept for UsedLine {
 
 /// How many of a part are on hand stands under its code.
 impl Kept for Hand {
-    ghost use Rattle.office_tables_maps.specs.Records.{hand_stored};
-
     type Place = PartCode;
 
     ghost stored = { hand_stored };
@@ -101,8 +89,6 @@ impl Kept for Hand {
 
 /// A delivery names all of its place: its part and its number.
 impl Kept for Delivery {
-    ghost use Rattle.office_tables_maps.specs.Records.{delivery_stored};
-
     type Place = (PartCode, RecordNo);
 
     ghost stored = { delivery_stored };
