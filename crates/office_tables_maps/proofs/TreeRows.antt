@@ -45,20 +45,12 @@ module _ {K X : Type 0} (R : K → K → Ordering) (exact : (a b : K) → R a b 
       ] refl
 
   -- what stands at a key in a tree of such records is that of the key
-  pub standing_found : (es : List (K × X)) (k : K) (x : X) → AreStanding es → lookup (is_at (R k)) es ≡ Some x → Stands k x
-  standing_found [] k x h found = absurd cc
-  standing_found (e ∷ es) k x h found = elim (cases_Bool (is_eq (R k e.0))) [
-    | inl hit ↦
-        let is : Some e.1 ≡ Some x = rw hit at found in
-        let same : e.1 ≡ x = cc in
-        subst₂ Stands (sym (exact k e.0 (tied _ hit))) same h.0
-    | inr miss ↦ standing_found es k x h.1 (rw miss at found)
+  pub standing_at : (es : List (K × X)) (k : K) → AreStanding es → IfSome (lookup (is_at (R k)) es) (Stands k)
+  standing_at [] k h = tt
+  standing_at (e ∷ es) k h = elim (cases_Bool (is_eq (R k e.0))) [
+    | inl hit ↦ rw hit (subst (λ j. Stands j e.1) (sym (exact k e.0 (tied _ hit))) h.0)
+    | inr miss ↦ rw miss (standing_at es k h.1)
   ]
-
-  -- if anything stands there
-  pub standing_at : (es : List (K × X)) (k : K) (found : Option X) → AreStanding es → lookup (is_at (R k)) es ≡ found → IfSome found (Stands k)
-  standing_at es k None h here = tt
-  standing_at es k (Some x) h here = standing_found es k x h here
 
   pub standing_removed : (test : K → Bool) (es : List (K × X)) → AreStanding es
       → AreStanding (remove_entry test es)

@@ -1,6 +1,6 @@
 -- What an intersection has in a tree, and what is found between its places.
-use Rattle.std.proofs.Common.{◌≡◌, inl, inr, ℕ, ◌==◌, ◌&&◌, true, false, eqb-true, not, List, [], ◌∷◌, ◌++◌, map, filter, None, Ordering, refl, sym, ap, ◌∙◌, append-nil}
-use Rattle.std.proofs.lemmas.{Bool.cases_Bool, Cmp.nat_cmp_total, List.Elements.filter_agree}
+use Rattle.std.proofs.Common.{◌≡◌, inl, inr, ℕ, ◌==◌, ◌&&◌, true, false, eqb-true, not, List, [], ◌∷◌, ◌++◌, map, filter, None, Ordering, refl, sym, ap, ◌∙◌, append-nil, arith}
+use Rattle.std.proofs.lemmas.{Bool.cases_Bool, Bool.Decides.nat_tests, Cmp.nat_cmp_total, List.Elements.filter_agree}
 use Rattle.std.specs.{Cmp.tied_itself, Ordering.nat_cmp, BTreeMap.Range.entries_between, BTreeMap.Range.range_contains, FinMap.entries, FinMap.Entries.where_key, List.AllByRecursion, List.Sorted.IsStrictlySortedBy, Map.keys_of, Ordering.is_eq, Ordering.is_gt, Ordering.is_le, Ordering.is_lt, Ordering.ordering_then, declared.ops.Bound.TheVariants.Included, declared.cmp.Ordering.TheVariants.Less, declared.cmp.Ordering.TheVariants.Equal, declared.cmp.Ordering.TheVariants.Greater}
 use Rattle.office_tables_shelf.specs.{CabinetReads.IsOfOne, Cells.Cell, Cells.cells_cmp, Content.Content, Content.is_of, Content.rows_at, Content.rows_but, Reads.HasDamagedRow, Shelf.rows_of, declared.rows.Table.Table}
 use Rattle.office_tables_shelf.proofs.{CabinetLemmas.of_number, ListLemmas.cells_of, ListLemmas.where_all, ListedRows.listed_whole, NumberedMaps.number_test, TreeLemmas.ranged_cmp, TreeLemmas.then_last}
@@ -15,12 +15,6 @@ walked walk found left begun none ended so_far =
     ∙ ap (λ rest. found ++ walk rest) (sym ended) ∙ so_far
 
 -- ---- where the places of an intersection lie
-
-among : (o first last : Ordering) → is_le first ≡ true → is_lt last ≡ false
-    → is_le (ordering_then o first) && not (is_lt (ordering_then o last)) ≡ is_eq o
-among Less first last from up = refl
-among Equal first last from up = rw (from, up) refl
-among Greater first last from up = refl
 
 not_over : (o : Ordering) → is_le o ≡ true → is_gt o ≡ false
 not_over Less up = refl
@@ -40,8 +34,9 @@ module _ {K X : Type 0} {R : K → K → Ordering} {keys : Keys K} (laws : AreKe
   pub lies : (id : ℕ) (k : ℕ × K) → keys.is_key k.1
       → range_contains (beside R) (Included (id, keys.first)) (Included (id, keys.last)) k ≡ (k.0 == id)
   lies id k within =
-      among (ranged_cmp id k.0) (R keys.first k.1) (R keys.last k.1)
-      (laws.from_first k.1 within) (laws.to_last k.1 within) ∙ number_test id k.0
+      let from = laws.from_first k.1 within in
+      let to = laws.to_last k.1 within in
+      grind (arith, nat_tests, from, to)
 
   pub forward : (id : ℕ) → is_gt (beside R (id, keys.first) (id, keys.last)) ≡ false
   forward id = ap (λ o. is_gt (ordering_then o (R keys.first keys.last)))

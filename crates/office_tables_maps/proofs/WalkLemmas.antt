@@ -1,6 +1,6 @@
 -- What a walk over all records has found so far, with what is left to it.
 use Rattle.std.proofs.Common.{◌≡◌, ◌==◌, ◌++◌, ℕ, true, false, cond, if◌then◌else◌, List, [], ◌∷◌, filter, Option, Some, None, refl, arith, append_assoc}
-use Rattle.std.proofs.lemmas.Bool.Decides.{nat_tests}
+use Rattle.std.proofs.lemmas.{Bool.Decides.nat_tests, List.Elements.filter-append}
 use Rattle.cabinet_core.specs.{Orders.is_open, Overdue.greater, Overdue.latest_day, declared.record.Inspection.Inspection, declared.record.Order.Order}
 use Rattle.office_tables_maps.proofs.UnderLemmas.{records_of}
 
@@ -27,15 +27,6 @@ abbrev pub OrdersWith : (ℕ → List Order) → (rest all : List ((ℕ × ℕ) 
 OrdersWith orders rest all = (id : ℕ)
     → orders id ++ filter is_open (records_of id rest) ≡ filter is_open (records_of id all)
 
-one_first : (x : Order) (xs : List Order)
-    → filter is_open (x ∷ xs) ≡ filter is_open (x ∷ []) ++ filter is_open xs
-one_first x xs =
-    elim (is_open x) as (λ b. cond b (x ∷ filter is_open xs) (filter is_open xs)
-    ≡ cond b (x ∷ []) [] ++ filter is_open xs) [
-      | true ↦ refl
-      | false ↦ refl
-    ]
-
 pub orders_more : (old new : ℕ → List Order) (place : ℕ × ℕ) (x : Order)
     (rest all : List ((ℕ × ℕ) × Order))
     → ((n : ℕ) → new n
@@ -45,6 +36,6 @@ orders_more old new place x rest all added so_far n =
     let left = records_of n rest in
     let here = added n in
     let begun = so_far n in
-    let first = one_first x left in
+    let first = filter-append is_open (x ∷ []) left in
     let seam = append_assoc (old n) (filter is_open (x ∷ [])) (filter is_open left) in
     grind (arith, nat_tests)

@@ -103,6 +103,7 @@ where
 }
 
 /// A copy of a tree.
+#[tactic(auto, using(crate::proofs::TreeRows::put_next))]
 pub(crate) fn copied_rows<T: Kept>(
     alloc: Global,
     rows: &BTreeMap<T::Place, T>,
