@@ -1,9 +1,9 @@
 -- The counts of writes rise by at most the rows that changes write of each table.
-use Rattle.std.proofs.Common.{◌≡◌, ℕ, ◌+◌, ◌≤◌, List, [], ◌∷◌, cond, refl, sym, subst, arith}
-use Rattle.std.proofs.lemmas.Bool.Decides.{nat_tests}
+use Rattle.std.proofs.Common.{◌≡◌, ℕ, ◌+◌, ◌≤◌, List, [], ◌∷◌, refl, sym, subst, arith}
 use Rattle.cabinet_core.specs.declared.command.RecordCommand.{RecordCommand}
 use Rattle.cabinet_core.specs.declared.command.RecordCommand.TheVariants as register
-use Rattle.office_tables_shelf.specs.Counts.{count_of, count_at, next_count, counts_after, is_same_table, writes_in}
+use Rattle.office_tables_shelf.specs.Counts.{count_of, count_at, counts_after, writes_in}
+use Rattle.office_tables_shelf.proofs.CountLemmas.{one_more}
 use Rattle.office_tables_shelf.specs.{Change.row_writes, Change.table_of, Content.Content}
 use Rattle.office_tables_shelf.specs.declared.{counts.WriteCounts.WriteCounts, rows.RowChange.RowChange, rows.Table.Table}
 use Rattle.office_tables_shelf.specs.declared.rows.Table.TheVariants as table
@@ -12,23 +12,8 @@ use Rattle.office_desk.specs.Changes.{RiseAtMost, most_import_writes, most_write
 use Rattle.office_machine.specs.declared.command.Command.{Command}
 use Rattle.office_machine.specs.declared.command.Command.TheVariants as command
 
-capped : (n rows : ℕ) → next_count n rows ≤ n + rows
-capped n rows = grind (arith, nat_tests)
-
 stays : (n : ℕ) → n ≤ n + 0
 stays n = omega arith
-
--- a write raises the count of its table alone
-one_more : (counts : WriteCounts) (written other : Table) (rows : ℕ) → count_of (count_at counts written rows) other ≤ count_of counts other + cond (is_same_table written other) rows 0
-one_more counts table.Intersection table.Intersection rows = capped counts.intersection rows
-one_more counts table.Timing table.Timing rows = capped counts.timing rows
-one_more counts table.Draft table.Draft rows = capped counts.draft rows
-one_more counts table.Inspection table.Inspection rows = capped counts.inspection rows
-one_more counts table.WorkOrder table.WorkOrder rows = capped counts.work_order rows
-one_more counts table.Part table.Part rows = capped counts.part rows
-one_more counts table.Delivery table.Delivery rows = capped counts.delivery rows
-one_more counts table.UsedPart table.UsedPart rows = capped counts.used_part rows
-one_more counts written other rows = stays (count_of counts other)
 
 -- the counts rise at most by the rows that changes write of each table
 pub rises : (changes : List RowChange) (counts : WriteCounts) (other : Table) → count_of (counts_after counts changes) other ≤ count_of counts other + writes_in other changes

@@ -51,9 +51,7 @@ impl Pending {
             mut changes,
             mut puts,
         } = self;
-        for row in rows.as_slice() {
-            puts = puts.with(row)?;
-        }
+        puts.make_changes(rows.as_slice())?;
         changes.append(&mut rows)?;
         Ok(Pending { changes, puts })
     }

@@ -1,14 +1,13 @@
 -- Trees of records: the rows in their order, those that pass a test, and each record under its own place.
 use Rattle.std.proofs.Common.{◌≡◌, inl, inr, Bool, List, [], ◌∷◌, ◌++◌, true, false, map, filter, cond, Option, Some, None, IfSome, Ordering, T, refl, sym, ap, subst, subst₂, ◌∙◌, append_assoc}
 use Rattle.std.proofs.{lemmas.Bool.cases_Bool}
-use Rattle.std.specs.{BTreeMap.insert_entry, BTreeMap.is_at, FinMap.entries, FinMap.get, Option.option_map, FinMap.retain_keys, FinMap.get-retain_keys, FinMap.same_map, FinMap.Entries.is_sorted, FinMap.Entries.below_all, FinMap.Entries.find-where_key, List.AllByRecursion, List.Sorted.IsStrictlySortedBy, Map.keys_of, Map.lookup, Map.remove_entry, Cmp.IsTotalOrder, Ordering.ordering_reverse, Ordering.is_eq, Ordering.is_lt, Ordering.match_ordering, declared.cmp.Ordering.TheVariants.Less, declared.cmp.Ordering.TheVariants.Equal}
-use Rattle.std.specs.declared.cmp.Ordering.TheVariants.{Greater}
-use Rattle.std.specs.FinMap as finite
+use Rattle.std.specs.{BTreeMap.insert_entry, BTreeMap.is_at, FinMap.entries, FinMap.get, Option.option_map, FinMap.retain_keys, FinMap.get-retain_keys, FinMap.same_map, FinMap.Entries.is_sorted, FinMap.Entries.below_all, FinMap.Entries.find-where_key, List.AllByRecursion, List.Sorted.IsStrictlySortedBy, Map.keys_of, Map.lookup, Map.remove_entry, Cmp.IsTotalOrder, Ordering.ordering_reverse, Ordering.is_eq, Ordering.is_lt, Ordering.match_ordering, declared.cmp.Ordering.TheVariants.Less, declared.cmp.Ordering.TheVariants.Equal, declared.cmp.Ordering.TheVariants.Greater}
 use Rattle.office_tables_shelf.specs.Cells.{Cell, rows_by, tree_rows, cells_cmp}
 use Rattle.office_tables_shelf.proofs.CellLemmas.{cells_total, cells_exact, find_entry, get_by, tied}
 use Rattle.office_tables_shelf.proofs.TreeLemmas.{entry_at, get_tree}
 use Rattle.office_tables_shelf.proofs.ListLemmas.{both, cells_of, entry, entries_filter, entries_in_order}
-use Rattle.office_tables_maps.specs.Stored.{ArePlaced, Stored}
+use Rattle.office_tables_maps.specs.Stored.{ArePlaced, Places, Stored}
+use Rattle.std.specs.FinMap as finite
 
 -- ---- the entries of a tree, in its order
 
@@ -46,46 +45,27 @@ module _ {K X : Type 0} (R : K → K → Ordering) (exact : (a b : K) → R a b 
       ] refl
 
   -- what stands at a key in a tree of such records is that of the key
-  pub standing_found : (es : List (K × X)) (k : K) (x : X) → AreStanding es → lookup (is_at (R k)) es ≡ Some x → Stands k x
-  standing_found [] k x h found = absurd cc
-  standing_found (e ∷ es) k x h found = elim (cases_Bool (is_eq (R k e.0))) [
-    | inl hit ↦
-        let is : Some e.1 ≡ Some x = rw hit at found in
-        let same : e.1 ≡ x = cc in
-        subst₂ Stands (sym (exact k e.0 (tied _ hit))) same h.0
-    | inr miss ↦ standing_found es k x h.1 (rw miss at found)
+  pub standing_at : (es : List (K × X)) (k : K) → AreStanding es → IfSome (lookup (is_at (R k)) es) (Stands k)
+  standing_at [] k h = tt
+  standing_at (e ∷ es) k h = elim (cases_Bool (is_eq (R k e.0))) [
+    | inl hit ↦ rw hit (subst (λ j. Stands j e.1) (sym (exact k e.0 (tied _ hit))) h.0)
+    | inr miss ↦ rw miss (standing_at es k h.1)
   ]
 
-  -- if anything stands there
-  pub standing_at : (es : List (K × X)) (k : K) (found : Option X) → AreStanding es → lookup (is_at (R k)) es ≡ found → IfSome found (Stands k)
-  standing_at es k None h here = tt
-  standing_at es k (Some x) h here = standing_found es k x h here
-
-module _ {K X : Type 0} (Stands : K → X → Type 0) where
-  abbrev All : List (K × X) → Type 0
-  All = AllByRecursion (λ e. Stands e.0 e.1)
-
-  pub standing_removed : (test : K → Bool) (es : List (K × X)) → All es → All (remove_entry test es)
+  pub standing_removed : (test : K → Bool) (es : List (K × X)) → AreStanding es
+      → AreStanding (remove_entry test es)
   standing_removed test [] h = tt
   standing_removed test (e ∷ es) h =
-      elim (test e.0) as (λ b. All (cond b es (e ∷ remove_entry test es))) [
+      elim (test e.0) as (λ b. AreStanding (cond b es (e ∷ remove_entry test es))) [
         | true ↦ h.1
         | false ↦ (h.0, standing_removed test es h.1)
       ]
 
-  pub standing_kept : (test : K × X → Bool) (es : List (K × X)) → All es → All (filter test es)
-  standing_kept test [] h = tt
-  standing_kept test (e ∷ es) h =
-      elim (test e) as (λ b. All (cond b (e ∷ filter test es) (filter test es))) [
-        | true ↦ (h.0, standing_kept test es h.1)
-        | false ↦ standing_kept test es h.1
-      ]
-
 -- each place and each record are within their limits
-pub within_each : {K Of X : Type 0} (kind : Stored K Of X) (es : List (K × X)) → ArePlaced kind es
-    → AllByRecursion (λ e. kind.is_place e.0 × kind.is_within e.1) es
-within_each kind [] h = tt
-within_each kind (e ∷ es) h = (h.0.1, within_each kind es h.1)
+pub within_each : {K X : Type 0} (places : Places K) (kind : Stored K X) (es : List (K × X))
+    → ArePlaced places kind es → AllByRecursion (λ e. places.is_place e.0 × kind.is_within e.1) es
+within_each places kind [] h = tt
+within_each places kind (e ∷ es) h = (h.0.1, within_each places kind es h.1)
 
 -- ---- an entry that is put after all others
 

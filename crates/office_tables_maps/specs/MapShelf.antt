@@ -1,9 +1,7 @@
 -- What a shelf in memory shows: its tables and its counts.
 use Rattle.std.specs.Prelude.{refl}
 use Rattle.std.specs.Coded.{Coded, code_by, coded×}
-use Rattle.office_tables_shelf.specs.Content.{Content, content_code}
-use Rattle.office_tables_shelf.specs.Counts.{counts_code}
-use Rattle.office_tables_shelf.specs.declared.counts.WriteCounts.{WriteCounts}
+use Rattle.office_tables_shelf.specs.{Content.Content, Content.content_code, Counts.counts_code, declared.counts.WriteCounts.WriteCounts}
 
 -- the tables, and how often their rows were written
 pub record ShelfView : Type 0 where

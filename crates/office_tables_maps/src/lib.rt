@@ -7,4 +7,3 @@ pub mod maps;
 mod place;
 mod records;
 mod under;
-mod walks;

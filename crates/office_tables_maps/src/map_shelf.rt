@@ -1,12 +1,10 @@
 //! The tables of an office in memory.
 ghost use Rattle.std.specs.Prelude.{◌≡◌, IfOk};
-ghost use Rattle.office_tables_shelf.specs.Content.{no_content};
-ghost use Rattle.office_tables_shelf.specs.Counts.{no_writes};
+ghost use Rattle.office_tables_shelf.specs.{Content.no_content, Counts.no_writes};
 
 use crate::kept::{find, list_all};
 use crate::maps::Maps;
 use crate::under::{count_under, list_under};
-use crate::walks::{last_days, open_orders_of};
 use cabinet_core::{Day, Hand, Inspection, Order, PartCode, UsedLine};
 use office_tables_shelf::counts::WriteCounts;
 use office_tables_shelf::register::{RegisterKey, RegisterRecord};
@@ -120,7 +118,7 @@ impl Shelf for MapShelf {
     }
 
     fn last_inspections(&mut self, alloc: Global) -> Result<BTreeMap<InterId, Day>, ShelfFault> {
-        Ok(last_days(alloc, &self.now.inspection)?)
+        Ok(self.now.last_days(alloc)?)
     }
 
     fn orders(&mut self, alloc: Global, id: InterId) -> Result<Vec<Order>, ShelfFault> {
@@ -128,7 +126,7 @@ impl Shelf for MapShelf {
     }
 
     fn open_orders(&mut self, alloc: Global) -> Result<BTreeMap<InterId, Vec<Order>>, ShelfFault> {
-        Ok(open_orders_of(alloc, &self.now.work_order)?)
+        Ok(self.now.open_orders(alloc)?)
     }
 
     fn used_lines(&mut self, alloc: Global, id: InterId) -> Result<Vec<UsedLine>, ShelfFault> {
@@ -140,9 +138,13 @@ impl Shelf for MapShelf {
     }
 
     fn apply(&mut self, alloc: Global, changes: &[RowChange]) -> Result<(), ShelfFault> {
-        let next = self.same(alloc)?.make_changes(changes)?;
-        let old = mem::replace(&mut self.now, next);
-        self.spare = old.make_changes(changes).ok();
+        let mut next = self.same(alloc)?;
+        next.make_changes(changes)?;
+        let mut old = mem::replace(&mut self.now, next);
+        self.spare = match old.make_changes(changes) {
+            Ok(()) => Some(old),
+            Err(_refused) => None,
+        };
         self.counts.count_all(changes);
         Ok(())
     }

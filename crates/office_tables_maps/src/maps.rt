@@ -1,12 +1,14 @@
 //! The eight tables in memory, as maps of records.
-ghost use Rattle.std.specs.Prelude.{◌≡◌, OnOk, IfOk, IfSome};
+ghost use Rattle.std.specs.Prelude.{◌≡◌, ℕ, OnOk, IfOk, IfSome};
 
 use crate::kept::{copied_rows, find, put, remove};
 use crate::under::drop_under;
-use cabinet_core::{Delivery, Hand, Inspection, Order, PartCode, UsedLine};
+use cabinet_core::{Day, Delivery, Hand, Inspection, Order, PartCode, UsedLine};
+use office_tables_shelf::open_orders::add_open;
+use office_tables_shelf::overdue::add_day;
 use office_tables_shelf::register::{RegisterKey, RegisterRecord};
 use office_tables_shelf::rows::{IntersectionRow, RowChange};
-use signal_records::{Change, InterId, Key, LineNo, NoMemory, RecordNo, Row};
+use signal_records::{Change, InterId, Key, LineNo, NoMemory, RecordNo, Row, changed_key};
 use std::alloc::Global;
 use std::collections::BTreeMap;
 use std::marker::Model;
@@ -39,10 +41,15 @@ impl Model for Maps {
     ghost invariant = { AreMapsPlaced };
 }
 
+/// A place by value: then its type says that it is within its limits.
+fn at<P>(place: P) -> P
+    ensures { result ≡ place }
+{
+    place
+}
+
 impl Maps {
-    ghost use Rattle.office_tables_shelf.specs.Places.{FindsAt, IsOfPlace, place_of};
-    ghost use Rattle.office_tables_shelf.specs.Content.{no_content};
-    ghost use Rattle.office_tables_shelf.specs.Change.{changed, changed_by};
+    ghost use Rattle.office_tables_shelf.specs.{CabinetReads.HasAnyDamagedInspection, CabinetReads.HasAnyDamagedOrder, OpenOrders.orders_in, OpenOrders.ReadsOpen, Overdue.last_day_in, Overdue.ReadsLast, Places.FindsAt, Places.IsOfPlace, Places.place_of, Content.no_content, Change.changed, Change.changed_by};
 
     /// Tables without a row.
     pub fn new(alloc: Global) -> Maps
@@ -89,32 +96,65 @@ impl Maps {
         ensures { OnOk result (self.new ≡ changed self.old change.now) }
     {
         match change {
-            RowChange::AddIntersection(id, row) => put(&mut self.intersection, *id, row)?,
-            RowChange::PutIntersection(id, row) => put(&mut self.intersection, *id, row)?,
-            RowChange::AddTiming(id, row) => put(&mut self.timing, *id, row)?,
-            RowChange::PutTiming(id, row) => put(&mut self.timing, *id, row)?,
+            RowChange::AddIntersection(id, row) => put(&mut self.intersection, at(*id), row)?,
+            RowChange::PutIntersection(id, row) => put(&mut self.intersection, at(*id), row)?,
+            RowChange::AddTiming(id, row) => put(&mut self.timing, at((*id, row.key())), row)?,
+            RowChange::PutTiming(id, row) => put(&mut self.timing, at((*id, row.key())), row)?,
             RowChange::RemoveTiming(id, key) => remove(&mut self.timing, &(*id, *key)),
-            RowChange::AddDraft(id, change) => put(&mut self.draft, *id, change)?,
-            RowChange::PutDraft(id, change) => put(&mut self.draft, *id, change)?,
+            RowChange::AddDraft(id, row) => put(&mut self.draft, at((*id, changed_key(row))), row)?,
+            RowChange::PutDraft(id, row) => put(&mut self.draft, at((*id, changed_key(row))), row)?,
             RowChange::RemoveDraft(id, key) => remove(&mut self.draft, &(*id, *key)),
             RowChange::DropDraft(id, _) => drop_under(&mut self.draft, *id),
-            RowChange::AddInspection(id, found) => put(&mut self.inspection, *id, found)?,
-            RowChange::AddOrder(id, order) => put(&mut self.work_order, *id, order)?,
-            RowChange::PutOrder(id, order) => put(&mut self.work_order, *id, order)?,
-            RowChange::AddLine(id, used) => put(&mut self.used_part, *id, used)?,
+            RowChange::AddInspection(id, x) => put(&mut self.inspection, at((*id, x.number)), x)?,
+            RowChange::AddOrder(id, x) => put(&mut self.work_order, at((*id, x.number)), x)?,
+            RowChange::PutOrder(id, x) => put(&mut self.work_order, at((*id, x.number)), x)?,
+            RowChange::AddLine(id, x) => put(&mut self.used_part, at((*id, (x.order, x.line))), x)?,
             RowChange::PutPart(part, hand) => put(&mut self.part, part.clone()?, hand)?,
-            RowChange::AddDelivery(delivery) => put(&mut self.delivery, (), delivery)?,
+            RowChange::AddDelivery(x) => put(&mut self.delivery, (x.part.clone()?, x.number), x)?,
         }
         Ok(())
     }
 
-    /// These tables with one more change. `NoMemory` means that a growth was really refused; the
-    /// tables are given up then.
-    pub fn with(mut self, change: &RowChange) -> Result<Maps, NoMemory>
-        ensures { IfOk result (λ next. next ≡ changed self change.now) }
+    /// Makes the changes, in their order. `NoMemory` means that a growth was really refused; the
+    /// tables are of no use then.
+    pub fn make_changes(&mut self, changes: &[RowChange]) -> Result<(), NoMemory>
+        ensures { OnOk result (self.new ≡ changed_by self.old changes.now) }
     {
-        self.change(change)?;
-        Ok(self)
+        for change in changes {
+            self.change(change)?;
+        }
+        Ok(())
+    }
+
+    /// The day of the latest inspection of each intersection that has one.
+    pub(crate) fn last_days(&self, alloc: Global) -> Result<BTreeMap<InterId, Day>, NoMemory>
+        ensures days { IfOk result (λ days. (id : ℕ) →
+            ReadsLast self.now id (last_day_in days.entries id)) }
+        ensures whole { IfOk result (λ _. ¬ HasAnyDamagedInspection self.now) }
+    {
+        let mut days = BTreeMap::new(alloc);
+        for (place, inspection) in &self.inspection {
+            add_day(&mut days, place.0, inspection.day)?;
+        }
+        Ok(days)
+    }
+
+    /// The open orders on each intersection that has any, in the order of their numbers.
+    pub(crate) fn open_orders(
+        &self,
+        alloc: Global,
+    ) -> Result<BTreeMap<InterId, Vec<Order>>, NoMemory>
+        ensures orders { IfOk result (λ orders. (id : ℕ) →
+            ReadsOpen self.now id (orders_in orders.entries id)) }
+        ensures whole { IfOk result (λ _. ¬ HasAnyDamagedOrder self.now) }
+    {
+        let mut orders = BTreeMap::new(alloc);
+        for (place, order) in &self.work_order {
+            if order.closing.is_none() {
+                add_open(alloc, &mut orders, place.0, order.clone()?)?;
+            }
+        }
+        Ok(orders)
     }
 
     /// A copy of the record under a key of the register, if there is one. `NoMemory` means that a
@@ -145,16 +185,5 @@ impl Maps {
                 Ok(found.map(RegisterRecord::Delivery))
             }
         }
-    }
-
-    /// These tables with the changes made, in their order.
-    pub(crate) fn make_changes(self, changes: &[RowChange]) -> Result<Maps, NoMemory>
-        ensures { IfOk result (λ next. next ≡ changed_by self changes.now) }
-    {
-        let mut next = self;
-        for change in changes {
-            next.change(change)?;
-        }
-        Ok(next)
     }
 }

@@ -1,70 +1,70 @@
 //! The records of one intersection, which stand next to each other in a tree: listed, counted and
 //! dropped.
 
-ghost use Rattle.std.specs.Prelude.{◌≡◌, IfOk, map, length};
-ghost use Rattle.std.specs.List.{AllByRecursion};
-ghost use Rattle.office_tables_shelf.specs.Content.{rows_but};
-ghost use Rattle.office_tables_shelf.specs.Shelf.{rows_of};
-ghost use Rattle.office_tables_maps.specs.Stored.{ArePlaced, LiesUnder, stored_rows};
+ghost use Rattle.std.specs.Prelude.{◌≡◌, ℕ, IfOk, map, length};
+ghost use Rattle.std.specs.{List.AllByRecursion, declared.ops.Bound.TheVariants.Included};
+ghost use Rattle.office_tables_shelf.specs.{Content.rows_but, Shelf.rows_of};
+ghost use Rattle.office_tables_maps.specs.{Records.under, Stored.ArePlaced, Stored.stored_rows};
 
 use crate::kept::Kept;
-use crate::place::OfIntersection;
+use crate::place::Ends;
 use signal_records::{InterId, NoMemory};
 use std::alloc::Global;
 use std::collections::BTreeMap;
+use std::ops::Bound;
+
+/// The bounds of all places of an intersection, both included.
+fn all_of<K: Ends>(inter: InterId) -> (Bound<(InterId, K)>, Bound<(InterId, K)>)
+    ensures { result ≡ (Included (inter, K.keys.first), Included (inter, K.keys.last)) }
+{
+    let (first, last) = K::ends();
+    (
+        Bound::Included((inter, first)),
+        Bound::Included((inter, last)),
+    )
+}
 
 /// Copies of the records of an intersection, in the order of their places.
-pub(crate) fn list_under<T: Kept<Of = InterId>>(
+pub(crate) fn list_under<K: Ends, T: Kept<Place = (InterId, K)>>(
     alloc: Global,
-    rows: &BTreeMap<T::Place, T>,
+    rows: &BTreeMap<(InterId, K), T>,
     inter: InterId,
 ) -> Result<Vec<T>, NoMemory>
-where
-    T::Place: OfIntersection,
-    requires { LiesUnder T.Place.cmp T.stored T.Place.inter T.Place.first T.Place.last }
-    ensures rows { IfOk result (λ list. ArePlaced T.stored rows.now.entries →
-        map (λ x. (T.stored.cells (T.stored.place inter x), T.stored.columns x)) list.items
-        ≡ rows_of inter (stored_rows T.stored rows.now.entries)) }
-    ensures within { IfOk result (λ list. ArePlaced T.stored rows.now.entries →
+    requires { (k : ℕ × K) (x : T) → T.stored.own k x ≡ T.stored.own (k.0, K.keys.first) x }
+    ensures rows { IfOk result (λ list. ArePlaced (under K.keys) T.stored rows.now.entries →
+        map (λ x. ((under K.keys).cells (T.stored.own (inter, K.keys.first) x), T.stored.columns x)) list.items
+        ≡ rows_of inter (stored_rows (under K.keys) T.stored rows.now.entries)) }
+    ensures within { IfOk result (λ list. ArePlaced (under K.keys) T.stored rows.now.entries →
         AllByRecursion T.stored.is_within list.items) }
 {
     let mut list = Vec::new(alloc);
-    for (place, kept) in rows.range(T::Place::all_of(inter)) {
-        if place.inter() == inter {
-            list.push(kept.copy()?)?;
-        }
+    for (_, kept) in rows.range(all_of(inter)) {
+        list.push(kept.copy()?)?;
     }
     Ok(list)
 }
 
 /// How many records an intersection has.
-pub(crate) fn count_under<T: Kept<Of = InterId>>(
-    rows: &BTreeMap<T::Place, T>,
+pub(crate) fn count_under<K: Ends, T: Kept<Place = (InterId, K)>>(
+    rows: &BTreeMap<(InterId, K), T>,
     inter: InterId,
 ) -> usize
-where
-    T::Place: OfIntersection,
-    requires { LiesUnder T.Place.cmp T.stored T.Place.inter T.Place.first T.Place.last }
-    ensures { ArePlaced T.stored rows.now.entries →
-        result ≡ length (rows_of inter (stored_rows T.stored rows.now.entries)) }
+    requires { (k : ℕ × K) (x : T) → T.stored.own k x ≡ T.stored.own (k.0, K.keys.first) x }
+    ensures { ArePlaced (under K.keys) T.stored rows.now.entries →
+        result ≡ length (rows_of inter (stored_rows (under K.keys) T.stored rows.now.entries)) }
 {
-    let mut count = 0;
-    for (place, _) in rows.range(T::Place::all_of(inter)) {
-        if place.inter() == inter {
-            count += 1;
-        }
-    }
-    count
+    rows.range(all_of(inter)).count()
 }
 
 /// Removes the records of an intersection.
-pub(crate) fn drop_under<T: Kept<Of = InterId>>(rows: &mut BTreeMap<T::Place, T>, inter: InterId)
-where
-    T::Place: OfIntersection,
-    requires { LiesUnder T.Place.cmp T.stored T.Place.inter T.Place.first T.Place.last }
-    ensures rows { stored_rows T.stored rows.new.entries
-        ≡ rows_but inter (stored_rows T.stored rows.old.entries) }
-    ensures placed { ArePlaced T.stored rows.old.entries → ArePlaced T.stored rows.new.entries }
+pub(crate) fn drop_under<K: Ends, T: Kept<Place = (InterId, K)>>(
+    rows: &mut BTreeMap<(InterId, K), T>,
+    inter: InterId,
+)
+    ensures rows { stored_rows (under K.keys) T.stored rows.new.entries
+        ≡ rows_but inter (stored_rows (under K.keys) T.stored rows.old.entries) }
+    ensures placed { ArePlaced (under K.keys) T.stored rows.old.entries →
+        ArePlaced (under K.keys) T.stored rows.new.entries }
 {
-    rows.retain(|place, _| place.inter() != inter);
+    rows.retain(|place, _| place.0 != inter);
 }

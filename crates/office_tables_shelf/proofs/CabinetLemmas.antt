@@ -2,8 +2,7 @@
 use Rattle.std.proofs.Common.{◌≡◌, ℕ, pos, ◌==◌, eqb, List, ◌∷◌, Ordering, nat_cmp, refl, ap, ◌∙◌, arith}
 use Rattle.std.proofs.lemmas.Bool.Decides.{nat_tests}
 use Rattle.std.specs.{Cmp.Lexicographic.slice_cmp, Ordering.is_eq, Ordering.ordering_then, declared.cmp.Ordering.TheVariants.Equal}
-use Rattle.office_tables_shelf.specs.{Cells.Cell, Cells.number, Cells.text, Cells.cell_cmp, Cells.cells_cmp, CabinetRows.part_key}
-use Rattle.office_tables_shelf.specs.Shelf.{is_of}
+use Rattle.office_tables_shelf.specs.{Cells.Cell, Cells.number, Cells.text, Cells.cell_cmp, Cells.cells_cmp, CabinetRows.part_key, Shelf.is_of}
 use Rattle.office_tables_shelf.proofs.TreeLemmas.{then_last, number_order}
 
 -- texts of cells compare by their bytes

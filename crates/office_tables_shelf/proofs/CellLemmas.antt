@@ -2,10 +2,9 @@
 use Rattle.std.proofs.Common.{◌≡◌, Bool, true, false, List, [], ◌∷◌, map, find, cond, Option, Some, option_map, int_cmp, nat_cmp, refl, sym, ap, ◌∙◌, true≢false}
 use Rattle.std.proofs.lemmas.Cmp.{on_total, then_total, nat_cmp_total, nat_list_cmp_total, lists_total}
 use Rattle.std.proofs.lemmas.Map.Lookups.{exact_pairs, exact_unsigned, exact_signed, exact_bytes}
-use Rattle.std.specs.{Cmp.IsTotalOrder, Cmp.int_cmp_total, Cmp.Lexicographic.slice_cmp, FinMap.IsAntisymmetric, FinMap.slice_cmp-IsAntisymmetric, FinMap.get, FinMap.get-from_entries, Ordering.is_eq, Ordering.ordering_then, declared.cmp.Ordering.Ordering, declared.cmp.Ordering.TheVariants.Less, declared.cmp.Ordering.TheVariants.Equal}
-use Rattle.std.specs.declared.cmp.Ordering.TheVariants.{Greater}
-use Rattle.std.specs.FinMap as finite
+use Rattle.std.specs.{Cmp.IsTotalOrder, Cmp.int_cmp_total, Cmp.Lexicographic.slice_cmp, FinMap.IsAntisymmetric, FinMap.slice_cmp-IsAntisymmetric, FinMap.get, FinMap.get-from_entries, Ordering.is_eq, Ordering.ordering_then, declared.cmp.Ordering.Ordering, declared.cmp.Ordering.TheVariants.Less, declared.cmp.Ordering.TheVariants.Equal, declared.cmp.Ordering.TheVariants.Greater}
 use Rattle.office_tables_shelf.specs.Cells.{Cell, rows_by, class, whole, bytes, cell_cmp, cells_cmp, to_parts, from_parts, from_parts-to_parts}
+use Rattle.std.specs.FinMap as finite
 
 -- ---- the order
 

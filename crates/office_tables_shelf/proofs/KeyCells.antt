@@ -2,8 +2,7 @@
 use Rattle.std.proofs.Common.{◌≡◌, ℕ, ◌∙◌}
 use Rattle.std.specs.{Ordering.nat_cmp, Ordering.ordering_then, declared.cmp.Ordering.TheVariants.Equal}
 use Rattle.cabinet_core.specs.Register.{RecordKey, LineKey, DeliveryKey, record_cmp, line_cmp, delivery_cmp}
-use Rattle.office_tables_shelf.specs.{Cells.cells_cmp, Rows.intersection_key, RegisterStands.inspection_cells, RegisterStands.line_cells}
-use Rattle.office_tables_shelf.specs.RegisterStands.{delivery_cells}
+use Rattle.office_tables_shelf.specs.{Cells.cells_cmp, Rows.intersection_key, RegisterStands.inspection_cells, RegisterStands.line_cells, RegisterStands.delivery_cells}
 use Rattle.office_tables_shelf.proofs.{CabinetLemmas.text_order, TreeLemmas.number_order, TreeLemmas.then_last}
 
 pub intersection_order : (a b : ℕ) → cells_cmp (intersection_key a) (intersection_key b) ≡ nat_cmp a b

@@ -1,16 +1,13 @@
 -- What stands at a key, told from the list of the rows of an intersection.
 use Rattle.std.proofs.Common.{◌≡◌, inl, inr, ℕ, pos, true, false, List, [], ◌∷◌, map, find, cond, Option, None, Some, option_map, T, refl, sym, ap, subst, ◌∙◌}
 use Rattle.std.proofs.lemmas.Bool.{cases_Bool}
-use Rattle.std.specs.{Option.option_or, Cmp.tied_itself, FinMap.get, FinMap.empty, FinMap.entries, FinMap.entries_sorted, FinMap.get-empty, FinMap.get-entries, FinMap.get-insert, FinMap.Entries.is_sorted, FinMap.Entries.below_all, FinMap.Entries.is_sorted-where_key, FinMap.Entries.find-where_key, List.AllByRecursion, List.Sorted.IsStrictlySortedBy, Ordering.is_eq, Ordering.eq_by_cmp, declared.cmp.Ordering.TheVariants.Less}
-use Rattle.std.specs.declared.cmp.Ordering.TheVariants.{Equal}
-use Rattle.std.specs.FinMap as finite
-use Rattle.signal_records.specs.{Key.kind_of, Key.first_of, Key.second_of, Key.key_cmp, KeyOrder.key_at, KeyOrder.key_at-place_of, KeyOrder.key_total, KeyOrder.key_exact, Row.key_of, declared.key.Key.Key, declared.record.Row.Row, declared.record.Change.Change, declared.record.Change.TheVariants.Put}
-use Rattle.signal_records.specs.TimingSet as set
-use Rattle.signal_records.specs.ChangedRows.{changed_key}
-use Rattle.office_tables_shelf.specs.{Cells.Cell, Cells.TableRows, Cells.number, Cells.cells_cmp, Content.Content, Rows.timing_key, Rows.timing_columns, Rows.draft_columns, Shelf.is_of, Shelf.rows_of, Shelf.ListsTiming}
-use Rattle.office_tables_shelf.specs.Shelf.{ListsDraft}
+use Rattle.std.specs.{Option.option_or, Cmp.tied_itself, FinMap.get, FinMap.empty, FinMap.entries, FinMap.entries_sorted, FinMap.get-empty, FinMap.get-entries, FinMap.get-insert, FinMap.Entries.is_sorted, FinMap.Entries.below_all, FinMap.Entries.is_sorted-where_key, FinMap.Entries.find-where_key, List.AllByRecursion, List.Sorted.IsStrictlySortedBy, Ordering.is_eq, Ordering.eq_by_cmp, declared.cmp.Ordering.TheVariants.Less, declared.cmp.Ordering.TheVariants.Equal}
+use Rattle.signal_records.specs.{Key.kind_of, Key.first_of, Key.second_of, Key.key_cmp, KeyOrder.key_at, KeyOrder.key_at-place_of, KeyOrder.key_total, KeyOrder.key_exact, Row.key_of, declared.key.Key.Key, declared.record.Row.Row, declared.record.Change.Change, declared.record.Change.TheVariants.Put, ChangedRows.changed_key}
+use Rattle.office_tables_shelf.specs.{Cells.Cell, Cells.TableRows, Cells.number, Cells.cells_cmp, Content.Content, Rows.timing_key, Rows.timing_columns, Rows.draft_columns, Shelf.is_of, Shelf.rows_of, Shelf.ListsTiming, Shelf.ListsDraft}
 use Rattle.office_tables_shelf.proofs.CellLemmas.{cells_exact, cell_total, is_under, first_under, find_entry, mapped, tied}
 use Rattle.office_tables_shelf.proofs.{ListLemmas.parts, ListLemmas.less, TreeLemmas.timing_order, TreeLemmas.timing_ties}
+use Rattle.std.specs.FinMap as finite
+use Rattle.signal_records.specs.TimingSet as set
 
 -- ---- the rows of a list
 

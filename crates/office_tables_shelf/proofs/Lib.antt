@@ -10,3 +10,4 @@ pub mod OverdueLemmas
 pub mod StoredMaps
 pub mod KeyCells
 pub mod ListedRows
+pub mod CountLemmas

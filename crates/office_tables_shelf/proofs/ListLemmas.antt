@@ -5,9 +5,9 @@ use Rattle.std.specs.{Cmp.alike_right, Cmp.eq_by_cmp_equiv, Cmp.tied_itself, Fin
 use Rattle.std.specs.FinMap.{get-entries, from_entries, from_sorted, entries-from_sorted, get-from_sorted, get-from_entries, same_map}
 use Rattle.std.specs.FinMap.Entries.{is_sorted, below_all, where_key, is_sorted-where_key, find-where_key, same_entries}
 use Rattle.std.specs.Ordering.{is_lt, is_gt, ordering_reverse, eq_by_cmp}
-use Rattle.std.specs.FinMap as finite
 use Rattle.office_tables_shelf.specs.Cells.{Cell, TableRows, rows_by, cells_cmp}
 use Rattle.office_tables_shelf.proofs.CellLemmas.{cells_total, cells_exact, is_under, find_entry, get_by, tied}
+use Rattle.std.specs.FinMap as finite
 
 -- ---- elements of a list
 

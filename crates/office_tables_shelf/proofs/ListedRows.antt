@@ -1,16 +1,12 @@
 -- Rows that were listed: none of them is damaged.
 use Rattle.std.proofs.Common.{◌≡◌, ℕ, cond, List, map, find, Option, Some, None, option_map, refl, ap, sym, ◌∙◌}
 use Rattle.std.proofs.lemmas.List.Elements.{All-from_recursion}
-use Rattle.std.specs.FinMap as finite
 use Rattle.std.specs.{FinMap.entries, FinMap.get-entries, FinMap.Entries.find-where_key, FinMap.Entries.where_key, List.AllByRecursion}
 use Rattle.office_tables_shelf.proofs.CellLemmas.{cells_exact, find_entry, is_under, tied}
 use Rattle.office_tables_shelf.proofs.ListLemmas.{all_in, entry, found_has, where_all}
-use Rattle.office_tables_shelf.specs.{Cells.Cell, Cells.cells_cmp, Content.Content, Content.rows_at, Damage.HasAnyDamagedIntersection, Rows.intersection_columns, Rows.intersection_key}
-use Rattle.office_tables_shelf.specs.Reads.{is_among, HasDamagedRow}
-use Rattle.office_tables_shelf.specs.Shelf.{IsIntersectionWithin, ListsIntersections}
-use Rattle.office_tables_shelf.specs.declared.rows.Table.{Table}
+use Rattle.office_tables_shelf.specs.{Cells.Cell, Cells.cells_cmp, Content.Content, Content.rows_at, Damage.HasAnyDamagedIntersection, Rows.intersection_columns, Rows.intersection_key, Reads.is_among, Reads.HasDamagedRow, CabinetReads.IsOfOne, Rows.IsIntersectionRow, Shelf.ListsIntersections, declared.rows.Table.Table, declared.rows.IntersectionRow.IntersectionRow}
+use Rattle.std.specs.FinMap as finite
 use Rattle.office_tables_shelf.specs.declared.rows.Table.TheVariants as table
-use Rattle.office_tables_shelf.specs.declared.rows.IntersectionRow.{IntersectionRow}
 
 module _ {X : Type 0} (t : Table) (Within : X → Type 0) (key columns : X → List Cell) where
   -- what stands under a key is one of the rows
@@ -48,9 +44,9 @@ module _ {X : Type 0} (t : Table) (Within : X → Type 0) (key columns : X → L
       damaged.no_row is.0 is.1 is.2 is.3
 
 pub intersections_whole : (tables : Content) (rows : List (ℕ × IntersectionRow))
-    → ListsIntersections tables rows → AllByRecursion IsIntersectionWithin rows
+    → ListsIntersections tables rows → AllByRecursion (IsOfOne IsIntersectionRow) rows
     → ¬ HasAnyDamagedIntersection tables
 intersections_whole tables rows lists =
-    listed_whole table.Intersection IsIntersectionWithin (λ e. intersection_key e.0)
+    listed_whole table.Intersection (IsOfOne IsIntersectionRow) (λ e. intersection_key e.0)
     (λ e. intersection_columns e.1) tables None rows
     (lists ∙ sym (where_all (entries tables.intersection)))

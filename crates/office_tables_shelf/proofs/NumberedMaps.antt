@@ -15,28 +15,20 @@ pub at_number : {X : Type 0} (es : List (ℕ × X)) (n : ℕ)
     → lookup (is_at (ranged_cmp n)) es ≡ lookup (λ m. m == n) es
 at_number es n = λ i. lookup (λ m. number_test n m i) es
 
--- one that was put at a number, or taken from it, leaves the others
-pub at_change : {X : Type 0} (es fs : List (ℕ × X)) (id : ℕ) (next : Option X)
-    → ((n : ℕ) → lookup (is_at (ranged_cmp n)) fs
-    ≡ cond (is_at (ranged_cmp id) n) next (lookup (is_at (ranged_cmp n)) es))
-    → (n : ℕ) → lookup (λ m. m == n) fs ≡ cond (n == id) next (lookup (λ m. m == n) es)
-at_change es fs id next updates n =
-    sym (at_number fs n) ∙ updates n
-    ∙ (λ i. cond (number_test id n i) next (at_number es n i))
-
 through : {X Y : Type 0} (show : X → Y) (b : Bool) (x y : X)
     → show (cond b x y) ≡ cond b (show x) (show y)
 through show true x y = refl
 through show false x y = refl
 
--- the same of what is shown of it
+-- one that was put at a number, or taken from it, leaves what is shown of the others
 pub shown_change : {X Y : Type 0} (show : Option X → Y) (es fs : List (ℕ × X)) (id : ℕ)
     (next : Option X) → ((n : ℕ) → lookup (is_at (ranged_cmp n)) fs
     ≡ cond (is_at (ranged_cmp id) n) next (lookup (is_at (ranged_cmp n)) es))
     → (n : ℕ) → show (lookup (λ m. m == n) fs)
     ≡ cond (n == id) (show next) (show (lookup (λ m. m == n) es))
 shown_change show es fs id next updates n =
-    ap show (at_change es fs id next updates n) ∙ through show (n == id) next (lookup (λ m. m == n) es)
+    ap show (sym (at_number fs n) ∙ updates n
+    ∙ (λ i. cond (number_test id n i) next (at_number es n i))) ∙ through show (n == id) next _
 
 -- what is put where something was taken stands in its place
 pub in_its_place : {Y : Type 0} (b : Bool) (y none old : Y)

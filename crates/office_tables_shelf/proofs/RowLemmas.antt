@@ -2,18 +2,15 @@
 -- fields back, and these spell one row.
 use Rattle.std.proofs.Common.{◌≡◌, ℕ, ◌^◌, ◌<◌, ◌≤◌, Bool, true, false, eqb, List, [], ◌∷◌, map, Option, Some, None, refl, sym, ap, ◌∙◌, arith}
 use Rattle.std.specs.Prelude.{codes, not, IfSome, IsTrue}
-use Rattle.std.specs.{Char.is_ascii_digit, Fmt.decimal, List.All, List.list_all, List.join_with_byte}
-use Rattle.std.specs.List.{slice_split}
-use Rattle.std.proofs.{lemmas.Bool.and_parts, lemmas.Bool.and_from, lemmas.Bool.not-true, lemmas.Bool.Decides.nat_tests, lemmas.List.Folds.list_all-append, lemmas.List.Elements.All-weaker}
-use Rattle.std.proofs.lemmas.List.Splits.{join_with_byte-slice_split, slice_split_at, slice_split_none}
-use Rattle.std.proofs.lemmas.List.Sums.{AllPass-from_list_all, list_all-from_AllPass}
+use Rattle.std.specs.{Char.is_ascii_digit, Fmt.decimal, List.All, List.list_all, List.join_with_byte, List.slice_split}
+use Rattle.std.proofs.lemmas.{Bool.and_parts, Bool.and_from, Bool.not-true, Bool.Decides.nat_tests, List.Folds.list_all-append, List.Elements.All-weaker, List.Splits.join_with_byte-slice_split, List.Splits.slice_split_at, List.Splits.slice_split_none, List.Sums.AllPass-from_list_all, List.Sums.list_all-from_AllPass}
 use Rattle.signal_records.specs.{declared.record.Ped.Ped, declared.record.Phase.Phase, declared.record.SplitMode.SplitMode, declared.record.Row.Row, PhaseList.is_phase, PhaseList.is_phase_list, PhaseList.is_distinct, Reading.is_numeral, Reading.row_at, Spelling.list, Spelling.flag, Spelling.lead_field, Spelling.ped_fields, Spelling.phase_front, Spelling.phase_fields, Spelling.spelling, SplitMode.mode_code, declared.limits.Limits.Limits, Within.AreLimits}
 use Rattle.signal_records.specs.declared.record.SplitMode.TheVariants.{NoRecall, MinimumVehicleRecall, MaximumVehicleRecall, PedestrianRecall, MaximumVehicleAndPedestrianRecall, PhaseOmitted}
 use Rattle.signal_values.specs.declared.number.TheConstants.{PHASES}
 use Rattle.signal_records.specs.Within.{current_limits, most_lead, IsAnyPedWithin, IsPhaseWithin, IsRowWithin}
-use Rattle.signal_records.specs.declared.record.Row.TheVariants as row
 use Rattle.signal_records.proofs.{FieldLaws.numeral_decimal, FieldLaws.in_range, FieldLaws.same_ok, RowLaws.row_only, RowLaws.are_current}
 use Rattle.office_tables_shelf.specs.Rows.{body_in, body_of, timing_columns, left_columns_in, left_columns}
+use Rattle.signal_records.specs.declared.record.Row.TheVariants as row
 
 abbrev pub is_comma : ℕ → Bool
 is_comma b = eqb b 44

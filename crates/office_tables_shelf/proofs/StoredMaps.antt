@@ -1,11 +1,11 @@
 -- A finite map, stored as the rows of a table: what the rows have at a key, what an insertion makes of them, and that they are the map's entries.
 use Rattle.std.proofs.Common.{◌≡◌, ◌⊎◌, inl, inr, List, [], ◌∷◌, map, length, Option, Some, None, cond, T, Ordering, refl, ap, sym, subst, ◌∙◌, arith}
 use Rattle.std.specs.{Cmp.IsTotalOrder, Cmp.eq_by_cmp_equiv, FinMap.FinMap, FinMap.entries, FinMap.entries_sorted, FinMap.get, FinMap.insert, FinMap.get-entries, FinMap.get-insert, FinMap.Entries.is_sorted, FinMap.Entries.below_all, Option.option_map, Ordering.is_eq, Ordering.is_lt, Ordering.eq_by_cmp}
-use Rattle.std.specs.FinMap as finite
 use Rattle.office_tables_shelf.specs.Cells.{Cell, tree_rows, cells_cmp}
 use Rattle.office_tables_shelf.proofs.CellLemmas.{first_under, get_by}
 use Rattle.office_tables_shelf.proofs.ListLemmas.{both, parts, entries_in_order, cells_of}
 use Rattle.office_tables_shelf.proofs.TreeLemmas.{entry_at, get_tree, insert_tree, some_key, key_in, columns_in}
+use Rattle.std.specs.FinMap as finite
 
 module _ {K X : Type 0} {R : K → K → Ordering} (total : IsTotalOrder R) (key : K → List Cell) (columns : X → List Cell) (order : (a b : K) → cells_cmp (key a) (key b) ≡ R a b) where
   ties : (a b : K) → is_eq (cells_cmp (key a) (key b)) ≡ is_eq (R a b)

@@ -1,8 +1,7 @@
 -- A tree of records stands for the map of their cells, and follows its changes.
 use Rattle.std.proofs.Common.{◌≡◌, ◌⊎◌, inl, inr, ℕ, true, false, List, [], ◌∷◌, find, cond, Option, None, Some, option_map, Ordering, nat_cmp, pos, refl, sym, ap, subst, ◌∙◌, arith}
 use Rattle.std.proofs.{lemmas.Bool.cases_Bool, lemmas.Bool.Decides.nat_tests}
-use Rattle.std.specs.{BTreeMap.is_at, Cmp.eq_by_cmp_equiv, Cmp.nat_cmp_total, Cmp.tied_itself, FinMap.insert, FinMap.remove, FinMap.get, FinMap.same_map, FinMap.get-insert, FinMap.get-remove, Map.lookup, Ordering.is_eq, Ordering.eq_by_cmp, Ordering.int_cmp, Ordering.ordering_then, declared.cmp.Ordering.TheVariants.Less}
-use Rattle.std.specs.declared.cmp.Ordering.TheVariants.{Equal, Greater}
+use Rattle.std.specs.{BTreeMap.is_at, Cmp.eq_by_cmp_equiv, Cmp.nat_cmp_total, Cmp.tied_itself, FinMap.insert, FinMap.remove, FinMap.get, FinMap.same_map, FinMap.get-insert, FinMap.get-remove, Map.lookup, Ordering.is_eq, Ordering.eq_by_cmp, Ordering.int_cmp, Ordering.ordering_then, declared.cmp.Ordering.TheVariants.Less, declared.cmp.Ordering.TheVariants.Equal, declared.cmp.Ordering.TheVariants.Greater}
 use Rattle.signal_records.specs.{Key.kind_of, Key.first_of, Key.second_of, Key.key_cmp, declared.key.Key.Key}
 use Rattle.office_tables_shelf.specs.{Rows.timing_key, Cells.Cell, Cells.number, Cells.tree_rows, Cells.cell_cmp, Cells.cells_cmp}
 use Rattle.office_tables_shelf.proofs.CellLemmas.{cells_total, cells_exact, is_under, first_under, get_by, mapped, tied}

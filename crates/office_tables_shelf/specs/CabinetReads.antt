@@ -1,17 +1,10 @@
 -- What the lists of the cabinet's tables give, and when one of their rows is no record.
 use Rattle.std.specs.Prelude.{◌≡◌, ℕ, ◌==◌, cond, List, [], ◌∷◌, map, None, Some}
-use Rattle.std.specs.Int.{IsInRange}
-use Rattle.std.specs.FinMap.{entries}
-use Rattle.office_tables_shelf.specs.Content.{Content}
-use Rattle.office_tables_shelf.specs.Reads.{HasDamagedRow}
-use Rattle.office_tables_shelf.specs.Shelf.{rows_of}
-use Rattle.office_tables_shelf.specs.declared.rows.Table.TheVariants as table
-use Rattle.cabinet_core.specs.Part.{IsPartCode}
-use Rattle.cabinet_core.specs.Within.{IsInspectionWithin, IsOrderWithin, IsUsedLineWithin}
-use Rattle.cabinet_core.specs.declared.record.Inspection.{Inspection}
-use Rattle.cabinet_core.specs.declared.record.Order.{Order}
-use Rattle.cabinet_core.specs.declared.record.UsedLine.{UsedLine}
+use Rattle.std.specs.{Int.IsInRange, FinMap.entries}
+use Rattle.office_tables_shelf.specs.{Content.Content, Reads.HasDamagedRow, Shelf.rows_of}
+use Rattle.cabinet_core.specs.{Part.IsPartCode, Within.IsInspectionWithin, Within.IsOrderWithin, Within.IsUsedLineWithin, declared.record.Inspection.Inspection, declared.record.Order.Order, declared.record.UsedLine.UsedLine}
 use Rattle.office_tables_shelf.specs.CabinetRows.{part_key, part_columns, inspection_key, inspection_columns, used_key, used_columns, order_key, order_columns}
+use Rattle.office_tables_shelf.specs.declared.rows.Table.TheVariants as table
 
 -- ---- parts
 

@@ -1,11 +1,7 @@
 -- How the rows of the cabinet's tables are stored, cell by cell: the key of a row, and its other columns.
 use Rattle.std.specs.Prelude.{ℕ, pos, List, [], ◌∷◌, Option, Some, None}
 use Rattle.office_tables_shelf.specs.Cells.{Cell, null, number, text}
-use Rattle.cabinet_core.specs.declared.record.Inspection.{Inspection}
-use Rattle.cabinet_core.specs.declared.record.Closing.{Closing}
-use Rattle.cabinet_core.specs.declared.record.Order.{Order}
-use Rattle.cabinet_core.specs.declared.record.UsedLine.{UsedLine}
-use Rattle.cabinet_core.specs.declared.record.Delivery.{Delivery}
+use Rattle.cabinet_core.specs.declared.record.{Inspection.Inspection, Closing.Closing, Order.Order, UsedLine.UsedLine, Delivery.Delivery}
 
 -- ---- parts, by their codes
 

@@ -1,8 +1,7 @@
 -- What the tables of the office hold, whatever keeps them.
 use Rattle.std.specs.Prelude.{ℕ, pos, Bool, false, not, ◌==◌, cond, List, [], ◌∷◌, refl}
-use Rattle.std.specs.Coded.{Coded, code_by, coded×}
+use Rattle.std.specs.{Coded.Coded, Coded.code_by, Coded.coded×, Ordering.eq_by_cmp}
 use Rattle.std.specs.FinMap.{empty, insert, remove, retain_keys}
-use Rattle.std.specs.Ordering.{eq_by_cmp}
 use Rattle.office_tables_shelf.specs.Cells.{Cell, TableRows, number, cell_cmp, rows_code}
 use Rattle.office_tables_shelf.specs.declared.rows.Table.{Table}
 use Rattle.office_tables_shelf.specs.declared.rows.Table.TheVariants as table

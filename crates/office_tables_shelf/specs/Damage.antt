@@ -1,14 +1,9 @@
 -- When a stored row of an intersection or of its timing is no record.
 use Rattle.std.specs.Prelude.{◌≡◌, ◌≢◌, ℕ, List, None, Some}
 use Rattle.std.specs.FinMap.{get}
-use Rattle.signal_records.specs.Row.{key_of}
-use Rattle.signal_records.specs.Within.{IsRowWithin, IsChangeWithin, current_limits}
-use Rattle.office_tables_shelf.specs.Cells.{Cell}
-use Rattle.office_tables_shelf.specs.Content.{Content}
-use Rattle.office_tables_shelf.specs.Reads.{HasDamagedRow}
+use Rattle.signal_records.specs.{Row.key_of, Within.IsRowWithin, Within.IsChangeWithin, Within.current_limits}
+use Rattle.office_tables_shelf.specs.{Cells.Cell, Content.Content, Reads.HasDamagedRow, CabinetReads.IsOfOne, declared.rows.IntersectionRow.IntersectionRow}
 use Rattle.office_tables_shelf.specs.Rows.{intersection_key, intersection_columns, timing_key, timing_columns, draft_key, draft_columns, IsIntersectionRow}
-use Rattle.office_tables_shelf.specs.Shelf.{IsIntersectionWithin}
-use Rattle.office_tables_shelf.specs.declared.rows.IntersectionRow.{IntersectionRow}
 use Rattle.office_tables_shelf.specs.declared.rows.Table.TheVariants as table
 
 -- the row of the intersection with this number is damaged: its cells are those of no row within its limits
@@ -20,7 +15,7 @@ pub record HasDamagedIntersection (tables : Content) (id : ℕ) : Type 0 where
 -- a row of the intersection table is damaged: its cells are those of no number and row within their limits
 abbrev pub HasAnyDamagedIntersection : Content → Type 0
 HasAnyDamagedIntersection tables =
-    HasDamagedRow table.Intersection IsIntersectionWithin (λ e. intersection_key e.0)
+    HasDamagedRow table.Intersection (IsOfOne IsIntersectionRow) (λ e. intersection_key e.0)
     (λ e. intersection_columns e.1) tables None
 
 -- a row of the intersection in the timing table is no timing row within its limits, or stands under a key that is not its own

@@ -1,8 +1,6 @@
 -- What a call that reads a shelf keeps, by the members of its trait.
 use Rattle.std.specs.Prelude.{Result}
-use Rattle.office_tables_shelf.specs.Shelf.{IsKept, Looks}
-use Rattle.office_tables_shelf.specs.declared.shelf.Shelf.{Ghosts}
-use Rattle.office_tables_shelf.specs.declared.shelf.ShelfFault.{ShelfFault}
+use Rattle.office_tables_shelf.specs.{Shelf.IsKept, Shelf.Looks, declared.shelf.Shelf.Ghosts, declared.shelf.ShelfFault.ShelfFault}
 
 -- a call that reads a shelf leaves its content, its counts of writes and what a crash may leave as they were
 abbrev pub KeepsShelf : {S : Type 0} → Ghosts S → S → S → Type 0

@@ -1,12 +1,8 @@
 -- The open orders of all intersections, as the tables hold them.
 use Rattle.std.specs.Prelude.{◌≡◌, ℕ, ◌==◌, List, [], filter, Option, None, Some, Vec}
-use Rattle.std.specs.List.{AllByRecursion}
-use Rattle.std.specs.Map.{lookup}
-use Rattle.cabinet_core.specs.Orders.{is_open}
-use Rattle.cabinet_core.specs.Within.{IsOrderWithin}
-use Rattle.cabinet_core.specs.declared.record.Order.{Order}
-use Rattle.office_tables_shelf.specs.CabinetReads.{ListsOrders}
-use Rattle.office_tables_shelf.specs.Content.{Content}
+use Rattle.std.specs.{List.AllByRecursion, Map.lookup}
+use Rattle.cabinet_core.specs.{Orders.is_open, Within.IsOrderWithin, declared.record.Order.Order}
+use Rattle.office_tables_shelf.specs.{CabinetReads.ListsOrders, Content.Content}
 
 -- the orders of a list that was looked up; none where no list was found
 abbrev pub orders_kept : {A : Type 0} → Option (Vec Order A) → List Order

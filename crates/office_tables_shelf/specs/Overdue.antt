@@ -1,17 +1,8 @@
 -- The intersections that are overdue on a day, as the tables hold them.
 use Rattle.std.specs.Prelude.{◌≡◌, ◌⊎◌, ℕ, ◌==◌, List, map, take, Option}
-use Rattle.std.specs.List.{AllByRecursion}
-use Rattle.std.specs.Map.{lookup}
-use Rattle.cabinet_core.specs.Overdue.{latest_day, listed_of, overdue_list}
-use Rattle.cabinet_core.specs.Within.{IsInspectionWithin}
-use Rattle.cabinet_core.specs.declared.overdue_inspections.OverdueRow.{OverdueRow}
-use Rattle.cabinet_core.specs.declared.overdue_inspections.Seen.{Seen}
-use Rattle.cabinet_core.specs.declared.record.Inspection.{Inspection}
-use Rattle.office_tables_shelf.specs.CabinetReads.{HasAnyDamagedInspection, ListsInspections}
-use Rattle.office_tables_shelf.specs.Content.{Content}
-use Rattle.office_tables_shelf.specs.Damage.{HasAnyDamagedIntersection}
-use Rattle.office_tables_shelf.specs.Shelf.{ListsIntersections}
-use Rattle.office_tables_shelf.specs.declared.rows.IntersectionRow.{IntersectionRow}
+use Rattle.std.specs.{List.AllByRecursion, Map.lookup}
+use Rattle.cabinet_core.specs.{Overdue.latest_day, Overdue.listed_of, Overdue.overdue_list, Within.IsInspectionWithin, declared.overdue_inspections.OverdueRow.OverdueRow, declared.overdue_inspections.Seen.Seen, declared.record.Inspection.Inspection}
+use Rattle.office_tables_shelf.specs.{CabinetReads.HasAnyDamagedInspection, CabinetReads.ListsInspections, Content.Content, Damage.HasAnyDamagedIntersection, Shelf.ListsIntersections, declared.rows.IntersectionRow.IntersectionRow}
 
 -- each row of the intersection's inspections is an inspection within its limits, and this is the latest day of them, if there are any
 pub record ReadsLast (tables : Content) (id : ℕ) (last : Option ℕ) : Type 0 where

@@ -1,22 +1,11 @@
 -- The places where a row of the register stands, and what is read there, of whichever kind it is.
 use Rattle.std.specs.Prelude.{◌≡◌, ℕ, List, Option, Some, None, Result, Err, IfOk}
 use Rattle.cabinet_core.specs.Within.{IsInspectionWithin, IsOrderWithin, IsUsedLineWithin, IsDeliveryWithin}
-use Rattle.cabinet_core.specs.declared.record.Inspection.{Inspection as InspectionRecord}
-use Rattle.cabinet_core.specs.declared.record.Order.{Order as OrderRecord}
-use Rattle.cabinet_core.specs.declared.record.UsedLine.{UsedLine}
-use Rattle.cabinet_core.specs.declared.record.Delivery.{Delivery as DeliveryRecord}
-use Rattle.office_tables_shelf.specs.CabinetReads.{IsHand}
+use Rattle.cabinet_core.specs.declared.record.{Inspection.Inspection as InspectionRecord, Order.Order as OrderRecord, UsedLine.UsedLine, Delivery.Delivery as DeliveryRecord}
+use Rattle.office_tables_shelf.specs.{CabinetReads.IsHand, Cells.Cell, Content.Content, Reads.ReadsRow, Reads.HasDamagedUnder, declared.register.RegisterKey.RegisterKey, declared.register.RegisterRecord.RegisterRecord, declared.rows.Table.Table, declared.shelf.ShelfFault.ShelfFault, declared.shelf.ShelfFault.TheVariants.Damaged}
 use Rattle.office_tables_shelf.specs.CabinetRows.{part_key, part_columns, delivery_key, delivery_columns, inspection_key, inspection_columns, used_key, used_columns, order_key, order_columns}
-use Rattle.office_tables_shelf.specs.Cells.{Cell}
-use Rattle.office_tables_shelf.specs.Content.{Content}
-use Rattle.office_tables_shelf.specs.Reads.{ReadsRow, HasDamagedUnder}
-use Rattle.office_tables_shelf.specs.declared.register.RegisterKey.{RegisterKey}
 use Rattle.office_tables_shelf.specs.declared.register.RegisterKey.TheVariants as key
-use Rattle.office_tables_shelf.specs.declared.register.RegisterRecord.{RegisterRecord}
 use Rattle.office_tables_shelf.specs.declared.register.RegisterRecord.TheVariants as kind
-use Rattle.office_tables_shelf.specs.declared.rows.Table.{Table}
-use Rattle.office_tables_shelf.specs.declared.shelf.ShelfFault.{ShelfFault}
-use Rattle.office_tables_shelf.specs.declared.shelf.ShelfFault.TheVariants.{Damaged}
 use Rattle.office_tables_shelf.specs.declared.rows.Table.TheVariants as table
 
 -- where a row of the register stands: an inspection or an order by intersection and number, a used part by intersection, order and line, a part by

@@ -1,10 +1,7 @@
 -- What is read of a table, and when a stored row is no record, of whichever kind its records are.
 use Rattle.std.specs.Prelude.{◌≡◌, ◌≢◌, ℕ, Bool, true, List, Option, None, Some, IfSome}
-use Rattle.std.specs.Option.{option_map}
-use Rattle.std.specs.FinMap.{get}
-use Rattle.office_tables_shelf.specs.Cells.{Cell}
-use Rattle.office_tables_shelf.specs.Content.{Content, is_of, rows_at}
-use Rattle.office_tables_shelf.specs.declared.rows.Table.{Table}
+use Rattle.std.specs.{Option.option_map, FinMap.get}
+use Rattle.office_tables_shelf.specs.{Cells.Cell, Content.Content, Content.is_of, Content.rows_at, declared.rows.Table.Table}
 
 -- ---- the rows of a list: those of an intersection, or all of a table
 

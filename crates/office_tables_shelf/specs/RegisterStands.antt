@@ -2,10 +2,8 @@
 use Rattle.std.specs.Prelude.{◌≡◌, List}
 use Rattle.std.specs.FinMap.{entries}
 use Rattle.cabinet_core.specs.Register.{Register, RecordKey, LineKey, DeliveryKey}
-use Rattle.cabinet_core.specs.Sound.{IsSoundRegister}
-use Rattle.cabinet_core.specs.Stock.{stock_of}
-use Rattle.office_tables_shelf.specs.Cells.{Cell, tree_rows}
-use Rattle.office_tables_shelf.specs.Content.{Content}
+use Rattle.cabinet_core.specs.{Sound.IsSoundRegister, Stock.stock_of}
+use Rattle.office_tables_shelf.specs.{Cells.Cell, Cells.tree_rows, Content.Content}
 use Rattle.office_tables_shelf.specs.CabinetRows.{inspection_key, inspection_columns, order_key, order_columns, used_key, used_columns, delivery_key, delivery_columns, part_key, part_columns}
 
 -- the key cells of an inspection, by its key in the register

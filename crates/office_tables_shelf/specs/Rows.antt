@@ -1,19 +1,8 @@
 -- How the rows of the tables are stored, cell by cell, and which of them are records.
 use Rattle.std.specs.Prelude.{ℕ, ◌≤◌, pos, List, [], ◌∷◌, Option, Some, None, IfSome}
 use Rattle.std.specs.List.{join_with_byte}
-use Rattle.signal_records.specs.Key.{kind_of, first_of, second_of}
-use Rattle.signal_records.specs.Spelling.{spelling}
-use Rattle.signal_records.specs.Within.{current_limits}
+use Rattle.signal_records.specs.{Key.kind_of, Key.first_of, Key.second_of, Spelling.spelling, Within.current_limits, declared.key.Key.Key, declared.limits.Limits.Limits, declared.record.Row.Row, declared.record.Change.Change, declared.state.Stage.Stage, declared.state.Stage.TheVariants.Transaction, declared.state.Stage.TheVariants.Verify, declared.state.Stage.TheVariants.Done, declared.state.Holder.Holder, declared.revision.TheConstants.LAST_REVISION, ChangedRows.changed_key, ChangedRows.left_by}
 use Rattle.signal_values.specs.Words.{AreWords}
-use Rattle.signal_records.specs.declared.key.Key.{Key}
-use Rattle.signal_records.specs.declared.limits.Limits.{Limits}
-use Rattle.signal_records.specs.declared.record.Row.{Row}
-use Rattle.signal_records.specs.declared.record.Change.{Change}
-use Rattle.signal_records.specs.declared.state.Stage.{Stage}
-use Rattle.signal_records.specs.declared.state.Stage.TheVariants.{Transaction, Verify, Done}
-use Rattle.signal_records.specs.declared.state.Holder.{Holder}
-use Rattle.signal_records.specs.declared.revision.TheConstants.{LAST_REVISION}
-use Rattle.signal_records.specs.ChangedRows.{changed_key, left_by}
 use Rattle.office_tables_shelf.specs.Cells.{Cell, null, number, text}
 use Rattle.office_tables_shelf.specs.declared.rows.IntersectionRow.{IntersectionRow}
 

@@ -1,21 +1,10 @@
 -- What the contracts of a shelf say: what a call that reads keeps, and which intersections and rows of plans it gives.
 use Rattle.std.specs.Prelude.{◌≡◌, ℕ, List, map, length, Option, IsSome, Result, Ok, Err, IfOk, Vec, ⊤}
-use Rattle.std.specs.Int.{IsInRange}
-use Rattle.std.specs.List.{AllByRecursion}
-use Rattle.std.specs.Option.{option_map}
-use Rattle.std.specs.FinMap.{get, entries}
-use Rattle.std.specs.FinMap.Entries.{where_key}
-use Rattle.signal_records.specs.Row.{key_of}
-use Rattle.signal_records.specs.declared.record.Row.{Row}
-use Rattle.signal_records.specs.declared.record.Change.{Change}
-use Rattle.office_tables_shelf.specs.Cells.{Cell, TableRows, cells_cmp}
-use Rattle.office_tables_shelf.specs.Content.{Content}
+use Rattle.std.specs.{List.AllByRecursion, Option.option_map, FinMap.get, FinMap.entries, FinMap.Entries.where_key}
+use Rattle.signal_records.specs.{Row.key_of, declared.record.Row.Row, declared.record.Change.Change}
+use Rattle.office_tables_shelf.specs.{Cells.Cell, Cells.TableRows, Cells.cells_cmp, Content.Content, declared.rows.IntersectionRow.IntersectionRow, declared.counts.WriteCounts.WriteCounts, declared.shelf.ShelfFault.ShelfFault, declared.shelf.ShelfFault.TheVariants.Damaged}
 pub use Rattle.office_tables_shelf.specs.Content.{is_of}
-use Rattle.office_tables_shelf.specs.Rows.{intersection_key, intersection_columns, IsIntersectionRow, timing_key, timing_columns, draft_key, draft_columns}
-use Rattle.office_tables_shelf.specs.declared.rows.IntersectionRow.{IntersectionRow}
-use Rattle.office_tables_shelf.specs.declared.counts.WriteCounts.{WriteCounts}
-use Rattle.office_tables_shelf.specs.declared.shelf.ShelfFault.{ShelfFault}
-use Rattle.office_tables_shelf.specs.declared.shelf.ShelfFault.TheVariants.{Damaged}
+use Rattle.office_tables_shelf.specs.Rows.{intersection_key, intersection_columns, timing_key, timing_columns, draft_key, draft_columns}
 
 -- A call that only reads: the disk is no more honest than it was, and the tables, the counts and what a crash may leave stay.
 -- What a crash may leave stays also where a failure shut the database.
@@ -55,10 +44,6 @@ rows_of id rows = where_key cells_cmp (is_of id) (entries rows)
 -- a row of an intersection stands under the number, be it a record or not
 abbrev pub IsThere : Content → ℕ → Type 0
 IsThere tables id = IsSome (get tables.intersection (intersection_key id))
-
--- the number is one of an intersection, 1 to 9999, and the row is within its limits
-abbrev pub IsIntersectionWithin : ℕ × IntersectionRow → Type 0
-IsIntersectionWithin e = IsInRange 1 9999 e.0 × IsIntersectionRow e.1
 
 -- the rows of all intersections, in the order of their numbers, are those of the list
 abbrev pub ListsIntersections : Content → List (ℕ × IntersectionRow) → Type 0

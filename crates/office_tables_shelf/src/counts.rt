@@ -4,17 +4,11 @@ ghost use Rattle.office_tables_shelf.specs.Counts.{no_writes, count_of, count_at
 
 use crate::rows::{RowChange, Table};
 
-/// The row writes of each table so far. A count stays at `u64::MAX` once it is there.
+/// The row writes of each table so far, in the order of the tables. A count stays at `u64::MAX`
+/// once it is there.
 #[derive(Clone, Copy)]
 pub struct WriteCounts {
-    intersection: u64,
-    timing: u64,
-    draft: u64,
-    inspection: u64,
-    work_order: u64,
-    part: u64,
-    delivery: u64,
-    used_part: u64,
+    counts: [u64; 8],
 }
 
 impl WriteCounts {
@@ -22,48 +16,22 @@ impl WriteCounts {
     pub fn new() -> WriteCounts
         ensures { result ≡ no_writes }
     {
-        WriteCounts {
-            intersection: 0,
-            timing: 0,
-            draft: 0,
-            inspection: 0,
-            work_order: 0,
-            part: 0,
-            delivery: 0,
-            used_part: 0,
-        }
+        WriteCounts { counts: [0; 8] }
     }
 
     /// The row writes of a table.
     pub fn of(&self, table: Table) -> u64
         ensures { result ≡ count_of self.now table }
     {
-        match table {
-            Table::Intersection => self.intersection,
-            Table::Timing => self.timing,
-            Table::Draft => self.draft,
-            Table::Inspection => self.inspection,
-            Table::WorkOrder => self.work_order,
-            Table::Part => self.part,
-            Table::Delivery => self.delivery,
-            Table::UsedPart => self.used_part,
-        }
+        self.counts[table as usize]
     }
 
     /// Counts some more rows of a table.
     fn count(&mut self, table: Table, rows: u64)
         ensures { self.new ≡ count_at self.old table rows }
     {
-        match table {
-            Table::Intersection => self.intersection = self.intersection.saturating_add(rows),
-            Table::Timing => self.timing = self.timing.saturating_add(rows),
-            Table::Draft => self.draft = self.draft.saturating_add(rows),
-            Table::Inspection => self.inspection = self.inspection.saturating_add(rows),
-            Table::WorkOrder => self.work_order = self.work_order.saturating_add(rows),
-            Table::Part => self.part = self.part.saturating_add(rows),
-            Table::Delivery => self.delivery = self.delivery.saturating_add(rows),
-            Table::UsedPart => self.used_part = self.used_part.saturating_add(rows),
-        }
+        let place = table as usize;
+        self.counts[place] = self.counts[place].saturating_add(rows);
     }
 
     /// Counts the rows that each change writes, of its table.

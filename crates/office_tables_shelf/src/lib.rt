@@ -1,7 +1,6 @@
 //! The tables of the office as a trait, and what they hold.
 #![tactic(auto)]
 
-pub mod bounds;
 pub mod counts;
 pub mod open_orders;
 pub mod overdue;

@@ -1,8 +1,8 @@
 //! The keys of the register's rows, and the records under them.
 
 ghost use Rattle.std.specs.Prelude.{◌≡◌, ℕ, List};
-ghost use Rattle.office_tables_shelf.specs.Places as place;
 ghost use Rattle.office_tables_shelf.specs.Places.{found_at};
+ghost use Rattle.office_tables_shelf.specs.Places as place;
 
 use cabinet_core::{Delivery, Hand, Inspection, Order, PartCode, UsedLine};
 use signal_records::{InterId, LineNo, RecordNo};

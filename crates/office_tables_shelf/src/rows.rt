@@ -27,16 +27,11 @@ impl Clone for IntersectionRow {
     ghost is_clone = { λ row copy. copy ≡ row };
 
     fn clone(&self) -> Result<IntersectionRow, AllocError> {
-        let name = self.name.clone()?;
-        let holder = match &self.holder {
-            Some(holder) => Some(holder.clone()?),
-            None => None,
-        };
         Ok(IntersectionRow {
-            name,
+            name: self.name.clone()?,
             interval: self.interval,
             revision: self.revision,
-            holder,
+            holder: self.holder.clone()?,
         })
     }
 }

@@ -2,18 +2,13 @@
 ghost use Rattle.std.specs.Prelude.{◌≡◌, ◌≢◌, ◌⊎◌, ℕ, [], IfOk, IfSome, OnOk, OnErr};
 ghost use Rattle.cabinet_core.specs.Within.{IsInspectionWithin, IsOrderWithin, IsUsedLineWithin, IsDeliveryWithin};
 ghost use Rattle.signal_records.specs.Within.{IsRowWithin, current_limits};
-ghost use Rattle.office_tables_shelf.specs.Content.{Content};
-ghost use Rattle.office_tables_shelf.specs.Change.{changed_by};
-ghost use Rattle.office_tables_shelf.specs.Counts.{count_of, counts_after};
-ghost use Rattle.office_tables_shelf.specs.Rows.{IsIntersectionRow};
-ghost use Rattle.office_tables_shelf.specs.Shelf.{GivesList, Looks, ReadsIntersection, ListsIntersections, IsIntersectionWithin, ListsTiming, CountsTiming, ListsDraft};
+ghost use Rattle.office_tables_shelf.specs.{Content.Content, Change.changed_by, Counts.count_of, Counts.counts_after, Rows.IsIntersectionRow, OpenOrders.orders_in, OpenOrders.ReadsOpen, declared.counts.WriteCounts.WriteCounts};
+ghost use Rattle.office_tables_shelf.specs.Shelf.{GivesList, Looks, ReadsIntersection, ListsIntersections, ListsTiming, CountsTiming, ListsDraft};
 ghost use Rattle.office_tables_shelf.specs.Damage.{HasDamagedIntersection, HasAnyDamagedIntersection, HasDamagedTiming, HasDamagedDraft};
-ghost use Rattle.office_tables_shelf.specs.CabinetReads.{ListsInspections, HasDamagedInspection, ListsOrders, HasDamagedOrder, HasAnyDamagedInspection, HasAnyDamagedOrder, ListsUsed, HasDamagedUsed, IsHand, ListsParts, IsPartWithin, HasDamagedPart};
-ghost use Rattle.office_tables_shelf.specs.Places as place;
+ghost use Rattle.office_tables_shelf.specs.CabinetReads.{IsOfOne, ListsInspections, HasDamagedInspection, ListsOrders, HasDamagedOrder, HasAnyDamagedInspection, HasAnyDamagedOrder, ListsUsed, HasDamagedUsed, IsHand, ListsParts, IsPartWithin, HasDamagedPart};
 ghost use Rattle.office_tables_shelf.specs.Places.{BlamesAt, GivesAt, IsOfPlace, ReadsAt, place_of};
 ghost use Rattle.office_tables_shelf.specs.Overdue.{last_day_in, ReadsLast, ListsOverdue, HasOverdueDamage};
-ghost use Rattle.office_tables_shelf.specs.OpenOrders.{orders_in, ReadsOpen};
-ghost use Rattle.office_tables_shelf.specs.declared.counts.WriteCounts.{WriteCounts};
+ghost use Rattle.office_tables_shelf.specs.Places as place;
 
 use crate::overdue::overdue_among;
 use crate::register::{RegisterKey, RegisterRecord};
@@ -87,7 +82,7 @@ pub trait Shelf {
     ) -> Result<Vec<(InterId, IntersectionRow)>, ShelfFault>
         ensures read { Looks is_clean is_honest content written may_leave result self.old self.new }
         ensures lists { GivesList (is_honest self.new) (ListsIntersections (content self.old))
-            IsIntersectionWithin (HasAnyDamagedIntersection (content self.old)) result };
+            (IsOfOne IsIntersectionRow) (HasAnyDamagedIntersection (content self.old)) result };
 
     /// The committed rows of an intersection, in the order of their keys.
     fn timing_rows(&mut self, alloc: Global, id: InterId) -> Result<Vec<Row>, ShelfFault>

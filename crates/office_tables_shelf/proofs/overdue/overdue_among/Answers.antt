@@ -3,10 +3,9 @@ use Rattle.std.proofs.lemmas.List.{get_or-map, length-map}
 use Rattle.std.specs.{BTreeMap.is_at, Map.lookup}
 use Rattle.cabinet_core.specs.{Overdue.listed_of, Overdue.overdue_list}
 use Rattle.office_tables_shelf.specs.Overdue.{seen_on, seen_row}
-use Rattle.office_tables_shelf.proofs.{NumberedMaps.at_number, TreeLemmas.ranged_cmp}
+use Rattle.office_tables_shelf.proofs.{NumberedMaps.at_number, TreeLemmas.ranged_cmp, overdue.overdue_among.Goals.else-loop-id-test, overdue.overdue_among.Goals.then-loop-id-test+then-len-most}
 use Rattle.office_tables_shelf.proofs.OverdueLemmas.{all_found, enough_found, overdue_more, still_short}
 use Rattle.office_tables_shelf.proofs.overdue.overdue_among.Goals as goal
-use Rattle.office_tables_shelf.proofs.overdue.overdue_among.Goals.{else-loop-id-test, then-loop-id-test+then-len-most}
 
 pub loop-id-preserved : goal.loop-id-preserved
 loop-id-preserved c =

@@ -1,7 +1,4 @@
-use Rattle.std.proofs.Common.{rules, ◌≡◌, ◌∙◌}
-use Rattle.office_tables_maps.specs.Records as kept
-use Rattle.office_tables_maps.specs.Stored.{stored_rows}
-use Rattle.office_tables_maps.specs.contracts.maps.Maps.{the_view}
+use Rattle.std.proofs.Common.{rules}
 use Rattle.office_tables_maps.proofs.maps.Maps.copy_tables.Goals as goal
 
 pub invariant_of-result : goal.invariant_of-result
@@ -18,14 +15,13 @@ invariant_of-result c = record {
 
 pub returns : goal.returns
 returns c =
-    let viewed : the_view c.self.inside ≡ c.args.self.now = search rules in
-    (λ i. record {
-      intersection = stored_rows kept.intersection_stored (c.in_ok-intersection.ensures i);
-      timing = stored_rows kept.timing_stored (c.in_ok-timing.ensures i);
-      draft = stored_rows kept.draft_stored (c.in_ok-draft.ensures i);
-      inspection = stored_rows kept.inspection_stored (c.in_ok-inspection.ensures i);
-      work_order = stored_rows kept.order_stored (c.in_ok-work_order.ensures i);
-      used_part = stored_rows kept.used_stored (c.in_ok-used_part.ensures i);
-      part = stored_rows kept.hand_stored (c.in_ok-part.ensures i);
-      delivery = stored_rows kept.delivery_stored (c.in_ok-delivery.ensures i);
-    }) ∙ viewed
+    rw (
+      c.in_ok-intersection.ensures,
+      c.in_ok-timing.ensures,
+      c.in_ok-draft.ensures,
+      c.in_ok-inspection.ensures,
+      c.in_ok-work_order.ensures,
+      c.in_ok-used_part.ensures,
+      c.in_ok-part.ensures,
+      c.in_ok-delivery.ensures,
+    ) (search rules)

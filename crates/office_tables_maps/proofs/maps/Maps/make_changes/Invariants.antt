@@ -4,5 +4,5 @@ use Rattle.office_tables_maps.proofs.maps.Maps.make_changes.Given as goal
 
 -- what is left, made now, gives what all changes give
 abbrev pub invariant-loop-change : goal.invariant-loop-change
-invariant-loop-change l = changed_by l.next (drop l.change-index l.changes)
-    ≡ changed_by l.initial.next l.changes
+invariant-loop-change l = changed_by l.self (drop l.change-index l.changes)
+    ≡ changed_by l.fn.self l.changes
