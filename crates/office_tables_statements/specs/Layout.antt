@@ -3,9 +3,11 @@ use Rattle.std.specs.Prelude.{ℕ, suc, Bool, List, [], ◌∷◌, drop, length,
 use Rattle.sqlite.specs.Order.{Row, column}
 use Rattle.sqlite.specs.Tree.{Trees}
 use Rattle.sqlite_schema.specs.Rules.{agree}
-use Rattle.sqlite_schema.specs.declared.schema.Table.{Table}
+use Rattle.sqlite_schema.specs.declared.schema.Table.{Table as SqlTable}
 use Rattle.sqlite_value.specs.Keys.{plain}
-use Rattle.office_tables_statements.specs.Schema.{version_table}
+use Rattle.office_tables_shelf.specs.declared.rows.Table.{Table}
+use Rattle.office_tables_shelf.specs.declared.rows.Table.TheVariants as table
+use Rattle.office_tables_statements.specs.Schema.{table_at, version_table}
 
 -- where a table keeps its rows: its tree, the places of its key and of its other columns in a stored row, whose
 -- rowid is at place 0, and the places of the cells of a key that stands by itself
@@ -22,13 +24,28 @@ places_from n (x ∷ xs) = n ∷ places_from (suc n) xs
 
 -- Where a table keeps its key and its other columns. The columns of the key are the first ones, and column n is at
 -- place n + 1; a key that is the rowid is at place 0.
-abbrev pub layout_of : Table → Layout
+abbrev pub layout_of : SqlTable → Layout
 layout_of t = record {
   tree = t.tree;
   keys = t.primary;
   places = places_from 0 t.primary;
   columns = places_from (suc (length t.primary)) (drop (length t.primary) t.columns);
 }
+
+-- the table of the schema for one of the eight
+abbrev pub schema_at : Table → SqlTable
+schema_at table.Intersection = table_at 0
+schema_at table.Timing = table_at 1
+schema_at table.Draft = table_at 2
+schema_at table.Inspection = table_at 3
+schema_at table.WorkOrder = table_at 4
+schema_at table.Part = table_at 5
+schema_at table.Delivery = table_at 6
+schema_at table.UsedPart = table_at 7
+
+-- the layout of a table
+abbrev pub layout_at : Table → Layout
+layout_at t = layout_of (schema_at t)
 
 -- where the table `office_version` has its key and its column of the version
 abbrev pub office_version : Layout

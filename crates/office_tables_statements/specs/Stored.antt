@@ -10,8 +10,8 @@ use Rattle.office_tables_shelf.specs.Cells.{Cell, TableRows, rows_by, null, numb
 use Rattle.office_tables_shelf.specs.Content.{Content}
 use Rattle.office_tables_shelf.specs.declared.shelf.ShelfFault.{ShelfFault}
 use Rattle.office_tables_shelf.specs.declared.shelf.ShelfFault.TheVariants.{Damaged}
-use Rattle.office_tables_statements.specs.Layout.{Layout, layout_of, values_at}
-use Rattle.office_tables_statements.specs.Schema as schema
+use Rattle.office_tables_shelf.specs.declared.rows.Table.TheVariants as table
+use Rattle.office_tables_statements.specs.Layout.{Layout, layout_at, values_at}
 
 -- a value of SQL as a cell: a real number and a blob are odd, which no office stores
 abbrev pub cell_of : Value → Cell
@@ -51,14 +51,14 @@ rows_stored t trees = rows_in t (trees t.tree)
 -- what trees hold of the office's eight tables, as they are laid out
 abbrev pub content_of : Trees → Content
 content_of trees = record {
-  intersection = rows_stored (layout_of schema.intersection_table) trees;
-  timing = rows_stored (layout_of schema.timing_table) trees;
-  draft = rows_stored (layout_of schema.draft_table) trees;
-  inspection = rows_stored (layout_of schema.inspection_table) trees;
-  work_order = rows_stored (layout_of schema.work_order_table) trees;
-  part = rows_stored (layout_of schema.part_table) trees;
-  delivery = rows_stored (layout_of schema.delivery_table) trees;
-  used_part = rows_stored (layout_of schema.used_part_table) trees;
+  intersection = rows_stored (layout_at table.Intersection) trees;
+  timing = rows_stored (layout_at table.Timing) trees;
+  draft = rows_stored (layout_at table.Draft) trees;
+  inspection = rows_stored (layout_at table.Inspection) trees;
+  work_order = rows_stored (layout_at table.WorkOrder) trees;
+  part = rows_stored (layout_at table.Part) trees;
+  delivery = rows_stored (layout_at table.Delivery) trees;
+  used_part = rows_stored (layout_at table.UsedPart) trees;
 }
 
 -- what the tables of a connection hold now

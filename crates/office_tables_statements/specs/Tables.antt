@@ -12,7 +12,6 @@ use Rattle.sqlite.specs.Order.{Row}
 use Rattle.sqlite.specs.Query.{Query, inner, end}
 use Rattle.sqlite.specs.Source.{Source}
 use Rattle.sqlite.specs.Source.TheVariants.{Values}
-use Rattle.sqlite.specs.Table.{Table as SqlTable}
 use Rattle.sqlite.specs.Term.{Term, lit, col, op2}
 use Rattle.sqlite.specs.Collation.TheVariants.{Binary}
 use Rattle.sqlite_schema.specs.declared.schema.Column.{Column}
@@ -29,30 +28,14 @@ pub use Rattle.office_tables_shelf.specs.Content.{rows_at, place_at, with_rows, 
 pub use Rattle.office_tables_shelf.specs.Reads.{is_among, IsNoRow, HasDamagedRow, ReadsRow, HasDamagedUnder}
 use Rattle.office_tables_shelf.specs.Shelf.{rows_of}
 use Rattle.office_tables_shelf.specs.declared.rows.Table.{Table}
-use Rattle.office_tables_shelf.specs.declared.rows.Table.TheVariants as table
 use Rattle.office_tables_statements.specs.Calls.{Means}
-use Rattle.office_tables_statements.specs.Layout.{Layout, layout_of, places_from}
-use Rattle.office_tables_statements.specs.Schema as schema
+use Rattle.office_tables_statements.specs.Layout.{Layout, places_from}
+pub use Rattle.office_tables_statements.specs.Layout.{schema_at, layout_at}
 use Rattle.office_tables_statements.specs.Stored.{cells_at, are_sound, is_sound}
 
 -- ---- where each table is
 
--- the table of the schema for one of the eight
-abbrev pub schema_at : Table → SqlTable
-schema_at table.Intersection = schema.intersection_table
-schema_at table.Timing = schema.timing_table
-schema_at table.Draft = schema.draft_table
-schema_at table.Inspection = schema.inspection_table
-schema_at table.WorkOrder = schema.work_order_table
-schema_at table.Part = schema.part_table
-schema_at table.Delivery = schema.delivery_table
-schema_at table.UsedPart = schema.used_part_table
-
--- the layout of a table
-abbrev pub layout_at : Table → Layout
-layout_at t = layout_of (schema_at t)
-
--- the names of its columns
+-- the names of a table's columns
 abbrev pub names_of : Table → List (List ℕ)
 names_of t = map (λ (c : Column). c.name) (schema_at t).columns
 
