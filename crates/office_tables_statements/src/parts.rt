@@ -5,6 +5,7 @@ ghost use Rattle.sqlite_schema.specs.Code.{terms_in};
 ghost use Rattle.office_tables_statements.specs.Schema.{with_tree, IsAlikeOne, IsNameAmong};
 ghost use Rattle.office_tables_statements.specs.Wanted.{column_wanted, reference_wanted, ComparesAt, checks_wanted, table_wanted, index_wanted, indexes_wanted};
 
+use sqlite_items::Items;
 use sqlite_schema::code::{Op, Terms};
 use sqlite_schema::schema::{Action, Column, Index, Kind, Reference, Table};
 use sqlite_sql::ops::{BinaryOp, CompareOp};
@@ -98,7 +99,10 @@ fn compare(nodes: &[Op], roots: &[usize], want: &WantedCheck) -> bool
     let [root] = roots else {
         return false;
     };
-    nodes.len() > 1 && is_comparison(nodes, *root, want)
+    if nodes.len() < 2 {
+        return false;
+    }
+    is_comparison(nodes, *root, want)
 }
 
 /// Whether the checks of a table are the one that is wanted, if one is.
@@ -115,6 +119,16 @@ fn are_checks(checks: &Terms, want: &Option<WantedCheck>) -> bool
 /// index that keeps it; none where the key is the rowid.
 pub(crate) type WantedKey<'a> = (&'a [usize], Option<&'a str>);
 
+impl Wanted for &[usize] {
+    type Found = Items<usize>;
+
+    ghost made = { λ places. places.now };
+
+    fn is(&self, found: &Items<usize>) -> bool {
+        found.as_slice() == *self
+    }
+}
+
 /// What a table has to be: its name, its number, which is a place in the catalog, its key, its
 /// columns, its CHECK, and its foreign keys.
 pub(crate) type WantedTable<'a> = (
@@ -126,25 +140,22 @@ pub(crate) type WantedTable<'a> = (
     &'a [WantedReference<'a>],
 );
 
-/// Whether the rows of a table are found by the wanted key.
+/// Whether the rows of a table are found by the wanted key, at these places.
 fn is_keyed(table: &Table, want: &WantedTable<'_>) -> bool
     ensures { IsTrue result ↔ ((table.now.key ≡ (table_wanted want.now).key)
-        × (table.now.primary ≡ (table_wanted want.now).primary)
         × (table.now.uniques ≡ (table_wanted want.now).uniques)
         × (table.now.orders ≡ (table_wanted want.now).orders)) }
 {
-    let (places, index) = want.2;
     let (uniques, orders) = (table.uniques.as_slice(), table.orders.as_slice());
-    if table.primary.as_slice() != places {
-        return false;
+    match want.2 {
+        (_, None) => table.key == Some(0) && uniques.is_empty() && orders.is_empty(),
+        (places, Some(_)) => {
+            let [order] = orders else {
+                return false;
+            };
+            table.key.is_none() && are(uniques, &[places]) && *order == Order::PLAIN
+        }
     }
-    if let None = index {
-        return table.key == Some(0) && uniques.is_empty() && orders.is_empty();
-    }
-    let ([unique], [order]) = (uniques, orders) else {
-        return false;
-    };
-    table.key.is_none() && unique.as_slice() == places && *order == Order::PLAIN
 }
 
 /// Whether the table computes nothing of a new row, and has no AUTOINCREMENT.
@@ -164,9 +175,10 @@ fn is_plain(table: &Table) -> bool
 fn is_alike(table: &Table, want: &WantedTable<'_>) -> bool
     ensures { IsTrue result ↔ (table.now ≡ with_tree (table_wanted want.now) table.now.tree) }
 {
-    let (name, _, _, columns, check, references) = want;
+    let (name, _, key, columns, check, references) = want;
     table.name.as_slice() == name.as_bytes()
         && are(table.columns.as_slice(), columns)
+        && table.primary.as_slice() == key.0
         && is_keyed(table, want)
         && are_checks(&table.checks, check)
         && are(table.references.as_slice(), references)

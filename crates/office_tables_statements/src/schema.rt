@@ -55,6 +55,12 @@ pub fn is_name(name: &[u8]) -> bool
     is_named(name, &TABLES)
 }
 
+fn is_ours(table: &Table) -> bool
+    ensures { IsTrue result → IsOffices table.now }
+{
+    is_one_of(table, &TABLES)
+}
+
 /// Whether each of these is a table of the office, whatever its number. Tables may be missing.
 pub fn are_of_office(tables: &[Table]) -> bool
     ensures { IsTrue result → AllByRecursion IsOffices tables.now }
@@ -62,5 +68,5 @@ pub fn are_of_office(tables: &[Table]) -> bool
     let Some((table, tables)) = tables.split_first() else {
         return true;
     };
-    is_one_of(table, &TABLES) && are_of_office(tables)
+    is_ours(table) && are_of_office(tables)
 }
