@@ -16,7 +16,7 @@ use Rattle.office_tables_shelf.proofs.CellLemmas.{cells_total, cells_exact, is_u
 use Rattle.office_tables_shelf.proofs.ListLemmas.{entry, listed, strictly, IsIn, entries_filter, no_find}
 use Rattle.office_tables_statements.specs.{Layout.Layout, Layout.values_at, Tables.listed_by, Stored.cells_at, Stored.rows_in}
 use Rattle.office_tables_statements.proofs.StoredLemmas.{HaveKeys, same_order, agree_ties}
-use Rattle.office_tables_statements.proofs.{QueryLemmas.matched, RemoveLemmas.permuted}
+use Rattle.office_tables_statements.proofs.{QueryLemmas.matched, ContentLemmas.permuted}
 use Rattle.std.specs.FinMap as finite
 use Rattle.sqlite_trees.specs.declared.store.Shape.TheVariants as shape
 use Rattle.sqlite_schema.specs.declared.schema.{Index.Index, Constraint.TheVariants.Unique}
