@@ -50,7 +50,7 @@ small : (n many : ℕ) → n < 2 ^ 32 → min many 9223372036854775807 ≡ n →
 small n many low is = omega (arith, low, is)
 
 -- rising rowids are keys that differ
-rowids_distinct : (rows : List Row) → IsShaped shape.Table rows → IsDistinct (eq_by_cmp cells_cmp) (map (cells_at (0 ∷ [])) rows)
+pub rowids_distinct : (rows : List Row) → IsShaped shape.Table rows → IsDistinct (eq_by_cmp cells_cmp) (map (cells_at (0 ∷ [])) rows)
 rowids_distinct rows shaped =
     let sound = sound_rowids (layout_at table.Intersection) refl rows shaped in
     distinct_rising (0 ∷ []) rows shaped.0 (λ r x here there below.

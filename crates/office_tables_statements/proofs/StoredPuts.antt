@@ -124,15 +124,6 @@ module _ (t : Table) (old new : State) (count : ℕ) (ready : IsReady old) where
       (λ x there miss. subst (λ all. Has all x) (sym it.rows) (stays rows passed (values_at (0 ∷ [])) (λ _. refl) it.found hits was x there miss)) in
       turned _ it.ready it.others (is ∙ ap (λ m. retain_keys m (λ key. not (test key))) (sym (in_tree t old.now.trees)))
 
-  pub removes : (sql : List ℕ) (key : Row) → IsRemoveText t sql → IsKeyOf t key → Ran sql key old new count → IsTurned (remove_in (content_now old) t (key_given t key)) old new
-  removes sql key means given did =
-      subst (λ all. IsTurned (with_rows (content_now old) t all) old new) (removal _ (key_given t key))
-      (cut_where sql (of_key (layout_at t).keys (layout_at t).places) key (λ k. is_eq (cells_cmp k (key_given t key))) means (λ row there.
-      filter_agrees (layout_at t).keys (layout_at t).places (facts t).paired key row ∙ agree_ties (layout_at t).keys (layout_at t).places row key (own row there) given) did)
-
-  pub drops : (sql : List ℕ) (id : ℕ) → IsDropText t sql → Ran sql (Int (pos id) ∷ []) old new count → IsTurned (drop_in (content_now old) t id) old new
-  drops sql id means did = cut_where sql (of_first t) (Int (pos id) ∷ []) (is_of id) means (λ row there. (facts t).first id row (own row there)) did
-
   module _ (key columns : List Cell) (taken : takes t key columns ≡ true) where
     fits : Fits t key columns
     fits = fits_taken t key columns taken
@@ -141,8 +132,8 @@ module _ (t : Table) (old new : State) (count : ℕ) (ready : IsReady old) where
     params = values_of (key ++ columns)
 
     -- an INSERT that was accepted added the row
-    pub inserts : (sql : List ℕ) → IsInsertText t sql → Ran sql params old new count → IsTurned (put_in (content_now old) t key columns) old new
-    inserts sql means did =
+    inserted : (sql : List ℕ) → IsInsertText t sql → Ran sql params old new count → IsTurned (put_in (content_now old) t key columns) old new
+    inserted sql means did =
         let it = wrote sql _ means (place_at t) (schema_at t) (is_placed t) params old new count (record { runs = λ w. w; does = λ db out d. d }) ready did in
         let given = row_given t key columns in
         let casts : cast_row (schema_at t) given ≡ given = λ i. cast_one kind.Integer (id_given t key) fits.numbered i ∷ cast_suited (schema_at t).columns (beside_rowid t null key ++ columns) fits.suits i in
@@ -242,8 +233,23 @@ module _ (t : Table) (old new : State) (count : ℕ) (ready : IsReady old) where
         (picked (layout_at t) (facts t).paired (renewed_at t) params show (λ row. refl) (overlay old.now.trees []) asked.0 (asked.1.answer Null)) in
         renews edited.0 (it.trees ∙ ap (λ (w : Written). w.trees) (same_value edited.2)) it.goes_on asked.0 hits edited.1 (it.counted ∙ ap (λ (w : Written). length w.rows) (same_value edited.2))
 
--- one statement put the row, or the two together
+pub removes : (t : Table) (sql : List ℕ) → IsRemoveText t sql → (key : Row) → IsKeyOf t key → (old new : State) (count : ℕ) → IsReady old → Ran sql key old new count
+    → IsTurned (remove_in (content_now old) t (key_given t key)) old new
+removes t sql means key given old new count ready did =
+    subst (λ all. IsTurned (with_rows (content_now old) t all) old new) (removal _ (key_given t key))
+    (cut_where t old new count ready sql (of_key (layout_at t).keys (layout_at t).places) key (λ k. is_eq (cells_cmp k (key_given t key))) means (λ row there.
+    filter_agrees (layout_at t).keys (layout_at t).places (facts t).paired key row
+    ∙ agree_ties (layout_at t).keys (layout_at t).places row key (own t old new count ready row there) given) did)
+
+pub drops : (t : Table) (sql : List ℕ) → IsDropText t sql → (id : ℕ) (old new : State) (count : ℕ) → IsReady old → Ran sql (Int (pos id) ∷ []) old new count → IsTurned (drop_in (content_now old) t id) old new
+drops t sql means id old new count ready did =
+    cut_where t old new count ready sql (of_first t) (Int (pos id) ∷ []) (is_of id) means (λ row there. (facts t).first id row (own t old new count ready row there)) did
+
 module _ (t : Table) (key columns : List Cell) (taken : takes t key columns ≡ true) where
+  pub inserts : (sql : List ℕ) → IsInsertText t sql → (old new : State) (count : ℕ) → IsReady old → Ran sql (values_of (key ++ columns)) old new count → IsTurned (put_in (content_now old) t key columns) old new
+  inserts sql means old new count ready did = inserted t old new count ready key columns taken sql means did
+
+  -- one UPDATE put the row, or an INSERT after it
   pub one_put : (sql : List ℕ) → IsUpdateText t sql → (old new : State) (count : ℕ) → count ≢ 0 → IsReady old → Ran sql (values_of (key ++ columns)) old new count → IsTurned (put_in (content_now old) t key columns) old new
   one_put sql means old new count some ready did = (updates t old new count ready key columns taken sql means did).some some
 
@@ -251,7 +257,7 @@ module _ (t : Table) (key columns : List Cell) (taken : takes t key columns ≡ 
       → IsTurned (put_in (content_now old) t key columns) old new
   two_put update insert changes adds old mid new count added none ready first second =
       let it = (updates t old mid count ready key columns taken update changes first).none none in
-      let then = inserts t mid new added it.ready key columns taken insert adds second in
+      let then = inserts insert adds mid new added it.ready second in
       record {
         ready = then.ready;
         content = then.content ∙ ap (λ tables. put_in tables t key columns) it.content;
