@@ -46,22 +46,14 @@ pub fn ranged_at<Of, const LOW: u32, const HIGH: u32>(
 ) -> Result<Number<Of, LOW, HIGH>, ShelfFault>
     ensures { ReadsColumn (λ n. number (pos n)) (IsInRange LOW HIGH) row.now at result }
 {
-    let n = number_at(row, at)?;
-    match Number::new(n) {
-        Some(number) => Ok(number),
-        None => Err(ShelfFault::Damaged),
-    }
+    Number::new(number_at(row, at)?).ok_or(ShelfFault::Damaged)
 }
 
 /// The revision in a column, 0 to `LAST_REVISION`. `Damaged` means that it has none.
 pub fn revision_at(row: &Row, at: usize) -> Result<Revision, ShelfFault>
     ensures { ReadsColumn (λ n. number (pos n)) (λ n. n ≤ LAST_REVISION) row.now at result }
 {
-    let n = number_at(row, at)?;
-    match Revision::new(n) {
-        Some(revision) => Ok(revision),
-        None => Err(ShelfFault::Damaged),
-    }
+    Revision::new(number_at(row, at)?).ok_or(ShelfFault::Damaged)
 }
 
 /// The bytes of the text in a column. `Damaged` means that it has no text.
@@ -99,10 +91,7 @@ pub fn words_at<const MAX: usize>(
 ) -> Result<Words<MAX>, ShelfFault>
     ensures { ReadsColumn text (AreWords MAX) row.now at result }
 {
-    match Words::new(alloc, text_at(row, at)?)? {
-        Some(words) => Ok(words),
-        None => Err(ShelfFault::Damaged),
-    }
+    Words::new(alloc, text_at(row, at)?)?.ok_or(ShelfFault::Damaged)
 }
 
 /// The words in a column; none where it is NULL. `Damaged` means that it has neither, `NoMemory`
@@ -127,11 +116,7 @@ pub fn words_or_null_at<const MAX: usize>(
 pub fn day_at(row: &Row, at: usize) -> Result<Day, ShelfFault>
     ensures { ReadsColumn (λ day. number (pos day)) IsDay row.now at result }
 {
-    let n = number_at(row, at)?;
-    match Day::new(n) {
-        Some(day) => Ok(day),
-        None => Err(ShelfFault::Damaged),
-    }
+    Day::new(number_at(row, at)?).ok_or(ShelfFault::Damaged)
 }
 
 /// The code of a part in a column. `Damaged` means that it has none, `NoMemory` that a growth was
@@ -139,10 +124,7 @@ pub fn day_at(row: &Row, at: usize) -> Result<Day, ShelfFault>
 pub fn code_at(alloc: Global, row: &Row, at: usize) -> Result<PartCode, ShelfFault>
     ensures { ReadsColumn text IsPartCode row.now at result }
 {
-    match PartCode::new(alloc, text_at(row, at)?)? {
-        Some(code) => Ok(code),
-        None => Err(ShelfFault::Damaged),
-    }
+    PartCode::new(alloc, text_at(row, at)?)?.ok_or(ShelfFault::Damaged)
 }
 
 /// Tests that the column is NULL. `Damaged` means that it is not.
