@@ -20,6 +20,7 @@ use Rattle.sqlite_sql.specs.declared.aggregate.AggregateOp.TheVariants.{CountRow
 use Rattle.sqlite_sql.specs.declared.ops.BinaryOp.TheVariants.{Compare}
 use Rattle.sqlite_sql.specs.declared.ops.CompareOp.TheVariants.{Eq}
 use Rattle.sqlite_value.specs.Keys.{ascending}
+use Rattle.sqlite_value.specs.declared.keys.Key.{Key as SqlKey}
 use Rattle.signal_records.specs.Key.{kind_of, first_of, second_of}
 use Rattle.signal_records.specs.declared.key.Key.{Key}
 use Rattle.office_tables_shelf.specs.Cells.{Cell, TableRows, null, number, text, odd}
@@ -111,19 +112,23 @@ pub record IsUnder (t : Table) (tables : Content) (key : List Cell) (found : Opt
 
 -- ---- the statements
 
--- the query that lists a table's rows in the order of their keys, by a filter
-abbrev pub listed_by : Layout → List Term → Query
-listed_by t filter = record {
+-- the query that shows these terms of the rows that pass the filter, grouped and ordered so
+abbrev query_of : Layout → List Term → Option Grouping → List Term → List (Term × SqlKey) → Query
+query_of t filter group shown order = record {
   from = inner t.tree end;
   filter = filter;
-  group = None;
-  project = map (col 1) (t.keys ++ t.columns);
+  group = group;
+  project = shown;
   distinct = false;
   collations = [];
-  order = map (λ p. (col 1 p, ascending Binary)) t.keys;
+  order = order;
   limit = lit (Int (negsuc 0));
   offset = lit (Int (pos 0));
 }
+
+-- the query that lists a table's rows in the order of their keys, by a filter
+abbrev pub listed_by : Layout → List Term → Query
+listed_by t filter = query_of t filter None (map (col 1) (t.keys ++ t.columns)) (map (λ p. (col 1 p, ascending Binary)) t.keys)
 
 -- the text lists the rows of a table, of one intersection or all, in the order of their keys
 abbrev pub IsListText : Table → Option ℕ → List ℕ → Type 0
@@ -135,17 +140,7 @@ count_grouping = record { keys = []; collations = []; aggregates = record { op =
 
 -- the query that counts a table's rows, by a filter
 abbrev pub counted_by : Layout → List Term → Query
-counted_by t filter = record {
-  from = inner t.tree end;
-  filter = filter;
-  group = Some count_grouping;
-  project = col 1 0 ∷ [];
-  distinct = false;
-  collations = [];
-  order = [];
-  limit = lit (Int (negsuc 0));
-  offset = lit (Int (pos 0));
-}
+counted_by t filter = query_of t filter (Some count_grouping) (col 1 0 ∷ []) []
 
 -- the text counts the rows of one intersection, which is its parameter, in a table
 abbrev pub IsCountText : Table → List ℕ → Type 0
@@ -153,17 +148,7 @@ IsCountText t sql = Means sql (Select (record { lets = []; body = counted_by (la
 
 -- the query that shows these terms of the rows that pass the filter
 abbrev pub picked_where : Layout → List Term → List Term → Query
-picked_where t filter shown = record {
-  from = inner t.tree end;
-  filter = filter;
-  group = None;
-  project = shown;
-  distinct = false;
-  collations = [];
-  order = [];
-  limit = lit (Int (negsuc 0));
-  offset = lit (Int (pos 0));
-}
+picked_where t filter shown = query_of t filter None shown []
 
 -- the query that shows these terms of the rows whose key columns are the parameters
 abbrev pub picked_by : Layout → List Term → Query

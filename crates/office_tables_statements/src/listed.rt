@@ -42,10 +42,8 @@ pub fn body_at(
     let Some(body) = text_or_null_at(row, at)? else {
         return Ok(None);
     };
-    match row_of_body(alloc, version, body)? {
-        Some(found) => Ok(Some(found)),
-        None => Err(ShelfFault::Damaged),
-    }
+    let found = row_of_body(alloc, version, body)?.ok_or(ShelfFault::Damaged)?;
+    Ok(Some(found))
 }
 
 /// Tests that the column at this place, from 0, has this number. `Damaged` means that it has not.
@@ -85,9 +83,7 @@ pub fn read_key(row: &SqlRow, id: InterId) -> Result<Key, ShelfFault>
     let kind = number_at(row, 1)?;
     let first = number_at(row, 2)?;
     let second = number_at(row, 3)?;
-    let Some(key) = key_of_numbers(kind, first, second) else {
-        return Err(ShelfFault::Damaged);
-    };
+    let key = key_of_numbers(kind, first, second).ok_or(ShelfFault::Damaged)?;
     check_key(row, id, &key)?;
     Ok(key)
 }

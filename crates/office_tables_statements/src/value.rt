@@ -106,10 +106,8 @@ pub fn words_or_null_at<const MAX: usize>(
     let Some(found) = text_or_null_at(row, at)? else {
         return Ok(None);
     };
-    match Words::new(alloc, found)? {
-        Some(words) => Ok(Some(words)),
-        None => Err(ShelfFault::Damaged),
-    }
+    let words = Words::new(alloc, found)?.ok_or(ShelfFault::Damaged)?;
+    Ok(Some(words))
 }
 
 /// The day in a column, by its number, 0 to 84,005. `Damaged` means that it has none.
@@ -133,8 +131,7 @@ pub fn check_null(row: &Row, at: usize) -> Result<(), ShelfFault>
     ensures damaged { result ≡ Err ShelfFault.Damaged → at < length row.now →
         cell_of (column row.now at) ≢ null }
 {
-    let stored: Option<u32> = value_at(row, at)?;
-    match stored {
+    match value_at::<Option<u32>>(row, at)? {
         Some(_) => Err(ShelfFault::Damaged),
         None => Ok(()),
     }
