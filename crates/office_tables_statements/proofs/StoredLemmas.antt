@@ -12,7 +12,7 @@ use Rattle.sqlite_value.proofs.OrderLemmas.{value_cmp-Int, value_cmp-Text, value
 use Rattle.sqlite_rules.specs.Lists.{Has}
 use Rattle.office_tables_shelf.specs.Cells.{Cell, cell_cmp, cells_cmp}
 use Rattle.office_tables_shelf.proofs.CellLemmas.{cells_total, is_under, get_by}
-use Rattle.office_tables_statements.specs.Layout.{Layout, values_at, has_key, columns_in}
+use Rattle.office_tables_statements.specs.Layout.{Layout, values_at, has_key}
 use Rattle.office_tables_statements.specs.Stored.{cell_of, cells, cells_at, rows_in, is_sound, are_sound}
 
 -- ---- SQL's =
@@ -84,7 +84,7 @@ twice f g None = refl
 twice f g (Some x) = refl
 
 -- the map has, under the cells of a key, the cells of the row that SQL's = finds
-pub get_columns : (t : Layout) (rows : List Row) (key : Row) → HaveKeys t rows → are_sound t.places key ≡ true → get (rows_in t rows) (cells_at t.places key) ≡ option_map cells (columns_in t rows key)
+pub get_columns : (t : Layout) (rows : List Row) (key : Row) → HaveKeys t rows → are_sound t.places key ≡ true → get (rows_in t rows) (cells_at t.places key) ≡ option_map cells (option_map (values_at t.columns) (find (has_key t key) rows))
 get_columns t rows key sound given =
     get_rows t rows (cells_at t.places key)
     ∙ ap (option_map (cells_at t.columns)) (find_alike (has_cells t (cells_at t.places key)) (has_key t key) rows (λ r there. turned r (sound r there)))

@@ -17,7 +17,7 @@ use Rattle.office_tables_statements.specs.Schema.{office_schema}
 use Rattle.office_tables_statements.proofs.StoredLemmas.{HaveKeys, same_order, sound_rowids, agree_ties, get_columns}
 use Rattle.office_tables_statements.proofs.{Meaning.is_command, SoundLemmas.sound_keys, ListedLemmas.distinct_keys, ListedLemmas.distinct_rising, ListedLemmas.is_in}
 use Rattle.office_tables_statements.proofs.ListedLemmas.{unique_by, listing, shown_width, counted, distinct_kept}
-use Rattle.office_tables_statements.proofs.TableLemmas.{same_tree, is_listed, is_low, OwnKey, facts, passes, among, listing_of, rows_in_tree, in_tree}
+use Rattle.office_tables_statements.proofs.TableLemmas.{is_listed, is_low, OwnKey, facts, passes, among, listing_of, in_tree}
 use Rattle.office_tables_statements.proofs.QueryLemmas.{Passes, found_by_key, has_width, matched}
 use Rattle.office_tables_shelf.proofs.{ListLemmas.stands, CellLemmas.cells_exact, CellLemmas.tied}
 use Rattle.std.proofs.lemmas.List.{length-map, Sorted.length_permutation}
@@ -88,7 +88,7 @@ module _ (t : Table) (db : Database) (is : db.schema ≡ office_schema) (sound :
 
   -- that tree, in a query
   pub seen : overlay db.trees [] (layout_at t).tree ≡ db.trees (schema_at t).tree
-  seen = is_low t db.trees ∙ ap db.trees (same_tree t)
+  seen = is_low t db.trees
 
   -- the query of a list
   module _ (whose : Option ℕ) (sql : List ℕ) (means : IsListText t whose sql) (shown : List Row)
@@ -99,33 +99,21 @@ module _ (t : Table) (db : Database) (is : db.schema ≡ office_schema) (sound :
         let got = subst (λ k. effect.Reads k db (params_of whose) shown) (is_command sql _ means) reads in
         got.answer Null
 
-    keys_there : HaveKeys (layout_at t) (overlay db.trees [] (layout_at t).tree)
-    keys_there = subst (HaveKeys (layout_at t)) (sym seen) own_keys
-
-    distinct_there : IsDistinct (eq_by_cmp cells_cmp)
-        (map (cells_at (layout_at t).keys) (overlay db.trees [] (layout_at t).tree))
-    distinct_there = subst (λ rows. IsDistinct (eq_by_cmp cells_cmp)
-        (map (cells_at (layout_at t).keys) rows)) (sym seen) distinct
-
     -- it shows its rows
     pub lists : map (row_shown t) shown ≡ rows_among whose (rows_at (content_of db.trees) t)
     lists =
-        let test = is_among whose in
         listing (layout_at t) (filter_of t whose) (key_shown t) (columns_shown t)
-        (listing_of (filter_of t whose) t) (params_of whose) test (overlay db.trees []) keys_there
-        distinct_there (λ row there. passes t whose row (keys_there row there)) shown answer
-        ∙ ap (λ rows. where_key cells_cmp test (entries (rows_in (layout_at t) rows)))
-        (is_low t db.trees)
-        ∙ ap (λ rows. where_key cells_cmp test (entries rows)) (sym (rows_in_tree t db.trees))
+        (listing_of (filter_of t whose) t) (params_of whose) (is_among whose) (overlay db.trees []) rows seen own_keys
+        distinct (λ row there. passes t whose row (own_keys row there)) shown answer
+        ∙ ap (λ rows. where_key cells_cmp (is_among whose) (entries rows)) (sym (in_tree t db.trees))
         ∙ among whose (rows_at (content_of db.trees) t)
 
     -- with all columns
     pub width : AllByRecursion (λ row. length row ≡ width_of t) shown
     width = all_from (λ (row : Row). length row ≡ width_of t) shown
         (shown_width (layout_at t) (filter_of t whose) (key_shown t) (columns_shown t)
-        (listing_of (filter_of t whose) t) (params_of whose) (is_among whose)
-        (overlay db.trees []) keys_there distinct_there
-        (λ row there. passes t whose row (keys_there row there)) shown answer)
+        (listing_of (filter_of t whose) t) (params_of whose) (is_among whose) (overlay db.trees []) rows seen own_keys
+        distinct (λ row there. passes t whose row (own_keys row there)) shown answer)
 
   -- ---- how many there are of an intersection
 

@@ -45,9 +45,6 @@ each P a b c d e f g h table.UsedPart = h
 
 -- ---- the schema
 
-pub same_tree : (t : Table) → (layout_at t).tree ≡ (schema_at t).tree
-same_tree = each (λ t. (layout_at t).tree ≡ (schema_at t).tree) refl refl refl refl refl refl refl refl
-
 pub is_placed : (t : Table) → slice_get office_schema.tables (place_at t) ≡ Some (schema_at t)
 is_placed =
     each (λ t. slice_get office_schema.tables (place_at t) ≡ Some (schema_at t)) refl refl refl refl refl refl refl refl
@@ -143,13 +140,9 @@ listing_of filter _ = record { shows = λ params row. refl; orders = λ a b. ref
 
 -- ---- the content
 
-pub rows_in_tree : (t : Table) (trees : Trees) → rows_at (content_of trees) t ≡ rows_in (layout_at t) (trees (layout_at t).tree)
-rows_in_tree t trees = each (λ t. rows_at (content_of trees) t
-    ≡ rows_in (layout_at t) (trees (layout_at t).tree)) refl refl refl refl refl refl refl refl t
-
--- the same by the tree of the schema
 pub in_tree : (t : Table) (trees : Trees) → rows_at (content_of trees) t ≡ rows_in (layout_at t) (trees (schema_at t).tree)
-in_tree t trees = rows_in_tree t trees ∙ ap (λ n. rows_in (layout_at t) (trees n)) (same_tree t)
+in_tree t trees = each (λ t. rows_at (content_of trees) t
+    ≡ rows_in (layout_at t) (trees (schema_at t).tree)) refl refl refl refl refl refl refl refl t
 
 -- what holds the same rows table by table is the same
 pub same_content : (a b : Content) → ((t : Table) → rows_at a t ≡ rows_at b t) → a ≡ b

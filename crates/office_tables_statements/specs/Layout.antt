@@ -1,7 +1,6 @@
 -- Where each table keeps its key and its other columns.
-use Rattle.std.specs.Prelude.{ℕ, suc, Bool, List, [], ◌∷◌, drop, length, map, find, Option, option_map}
+use Rattle.std.specs.Prelude.{ℕ, suc, Bool, List, [], ◌∷◌, drop, length, map}
 use Rattle.sqlite.specs.Order.{Row, column}
-use Rattle.sqlite.specs.Tree.{Trees}
 use Rattle.sqlite_schema.specs.Rules.{agree}
 use Rattle.sqlite_schema.specs.declared.schema.Table.{Table as SqlTable}
 use Rattle.sqlite_value.specs.Keys.{plain}
@@ -58,11 +57,3 @@ values_at places row = map (column row) places
 -- the row has this key in a table, as SQL's = compares
 abbrev pub has_key : Layout → Row → Row → Bool
 has_key t key row = agree plain t.keys row t.places key
-
--- the values beside the key of the first of these rows with this key, if there is one
-abbrev pub columns_in : Layout → List Row → Row → Option Row
-columns_in t rows key = option_map (values_at t.columns) (find (has_key t key) rows)
-
--- the values beside the key of the row with this key that trees hold of a table, if there is one
-abbrev pub columns_of : Layout → Trees → Row → Option Row
-columns_of t trees = columns_in t (trees t.tree)

@@ -2,7 +2,7 @@
 use Rattle.std.specs.Prelude.{◌≡◌, ◌≢◌, ◌<◌, ℕ, Bool, true, false, List, length, map, Option, None, Some, Result, Err, IfOk}
 use Rattle.std.specs.List.{list_all}
 use Rattle.sqlite.specs.declared.types.Value.{Value}
-use Rattle.sqlite.specs.declared.types.Value.TheVariants.{Null, Int, Real, Text, Blob}
+use Rattle.sqlite.specs.declared.types.Value.TheVariants.{Null, Int, Text}
 use Rattle.sqlite.specs.Order.{Row, column}
 use Rattle.sqlite.specs.State.{State}
 use Rattle.sqlite.specs.Tree.{Trees}
@@ -17,9 +17,8 @@ use Rattle.office_tables_statements.specs.Layout.{Layout, layout_at, values_at}
 abbrev pub cell_of : Value → Cell
 cell_of Null = null
 cell_of (Int n) = number n
-cell_of (Real x) = odd
 cell_of (Text t) = text t
-cell_of (Blob b) = odd
+cell_of _ = odd
 
 -- a text as a cell, null where there is none
 abbrev pub text_or_null : Option (List ℕ) → Cell
@@ -67,11 +66,9 @@ content_now s = content_of s.now.trees
 
 -- the value is an integer or a text
 abbrev pub is_sound : Value → Bool
-is_sound Null = false
 is_sound (Int n) = true
-is_sound (Real x) = false
 is_sound (Text t) = true
-is_sound (Blob b) = false
+is_sound _ = false
 
 -- the values of the row at these places are each an integer or a text
 abbrev pub are_sound : List ℕ → Row → Bool

@@ -224,15 +224,9 @@ values_of = map value_of
 abbrev pub suits_kind : Kind → Cell → Bool
 suits_kind kind.Integer null = true
 suits_kind kind.Integer (number n) = true
-suits_kind kind.Integer (text t) = false
-suits_kind kind.Integer odd = false
 suits_kind kind.Text null = true
-suits_kind kind.Text (number n) = false
 suits_kind kind.Text (text t) = true
-suits_kind kind.Text odd = false
-suits_kind kind.Real c = false
-suits_kind kind.Blob c = false
-suits_kind kind.Any c = false
+suits_kind _ c = false
 
 -- columns take cells as they are, as far as both lists go
 abbrev pub suit : List Column → List Cell → Bool

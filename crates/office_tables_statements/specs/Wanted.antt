@@ -56,30 +56,21 @@ module _ (Ref : Type 0 → Type 0) (now : (X : Type 0) → Ref X → X) where
   abbrev pub reference_of : WantedReference Ref → Reference
   reference_of want = record { columns = now _ want.1; parent = now _ want.0; parent_columns = []; on_delete = NoAction; on_update = NoAction; is_deferred = false }
 
-  -- the column that is the rowid, where no index keeps the key
-  abbrev pub rowid_of : WantedKey Ref → Option ℕ
-  rowid_of (places, None) = Some 0
-  rowid_of (places, Some index) = None
-
-  -- the places of which no two rows have equal values
-  abbrev pub uniques_of : WantedKey Ref → List (List ℕ)
-  uniques_of (places, None) = []
-  uniques_of (places, Some index) = now _ places ∷ []
-
-  -- how the keys that are no rowid are ordered
-  abbrev pub orders_of : WantedKey Ref → List Order
-  orders_of (places, None) = []
-  orders_of (places, Some index) = plain ∷ []
+  -- the column that is the rowid, where no index keeps the key; the places of which no two rows have equal values, and
+  -- their order, where one does
+  abbrev pub key_of : WantedKey Ref → Option ℕ × List (List ℕ) × List Order
+  key_of (places, None) = (Some 0, [], [])
+  key_of (places, Some index) = (None, now _ places ∷ [], plain ∷ [])
 
   abbrev pub table_of : WantedTable Ref → Table
   table_of want = record {
     name = now _ want.0;
     tree = want.1;
     columns = map column_of (now _ want.3);
-    key = rowid_of want.2;
+    key = (key_of want.2).0;
     primary = now _ want.2.0;
-    uniques = uniques_of want.2;
-    orders = orders_of want.2;
+    uniques = (key_of want.2).1;
+    orders = (key_of want.2).2;
     checks = checks_wanted want.4;
     references = map reference_of (now _ want.5);
     computed = [];
