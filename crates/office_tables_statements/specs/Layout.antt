@@ -6,7 +6,7 @@ use Rattle.sqlite_schema.specs.declared.schema.Table.{Table as SqlTable}
 use Rattle.sqlite_value.specs.Keys.{plain}
 use Rattle.office_tables_shelf.specs.declared.rows.Table.{Table}
 use Rattle.office_tables_shelf.specs.declared.rows.Table.TheVariants as table
-use Rattle.office_tables_statements.specs.Schema.{table_at, version_table}
+use Rattle.office_tables_statements.specs.Schema.{table_in_place, version_table}
 
 -- where a table keeps its rows: its tree, the places of its key and of its other columns in a stored row, whose
 -- rowid is at place 0, and the places of the cells of a key that stands by itself
@@ -33,14 +33,14 @@ layout_of t = record {
 
 -- the table of the schema for one of the eight
 abbrev pub schema_at : Table → SqlTable
-schema_at table.Intersection = table_at 0
-schema_at table.Timing = table_at 1
-schema_at table.Draft = table_at 2
-schema_at table.Inspection = table_at 3
-schema_at table.WorkOrder = table_at 4
-schema_at table.Part = table_at 5
-schema_at table.Delivery = table_at 6
-schema_at table.UsedPart = table_at 7
+schema_at table.Intersection = table_in_place 0
+schema_at table.Timing = table_in_place 1
+schema_at table.Draft = table_in_place 2
+schema_at table.Inspection = table_in_place 3
+schema_at table.WorkOrder = table_in_place 4
+schema_at table.Part = table_in_place 5
+schema_at table.Delivery = table_in_place 6
+schema_at table.UsedPart = table_in_place 7
 
 -- the layout of a table
 abbrev pub layout_at : Table → Layout

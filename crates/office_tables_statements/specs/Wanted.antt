@@ -58,19 +58,19 @@ module _ (Ref : Type 0 → Type 0) (now : (X : Type 0) → Ref X → X) where
 
   -- the column that is the rowid, where no index keeps the key; the places of which no two rows have equal values, and
   -- their order, where one does
-  abbrev pub key_of : WantedKey Ref → Option ℕ × List (List ℕ) × List Order
-  key_of (places, None) = (Some 0, [], [])
-  key_of (places, Some index) = (None, now _ places ∷ [], plain ∷ [])
+  abbrev pub key_parts : WantedKey Ref → Option ℕ × List (List ℕ) × List Order
+  key_parts (places, None) = (Some 0, [], [])
+  key_parts (places, Some index) = (None, now _ places ∷ [], plain ∷ [])
 
   abbrev pub table_of : WantedTable Ref → Table
   table_of want = record {
     name = now _ want.0;
     tree = want.1;
     columns = map column_of (now _ want.3);
-    key = (key_of want.2).0;
+    key = (key_parts want.2).0;
     primary = now _ want.2.0;
-    uniques = (key_of want.2).1;
-    orders = (key_of want.2).2;
+    uniques = (key_parts want.2).1;
+    orders = (key_parts want.2).2;
     checks = checks_wanted want.4;
     references = map reference_of (now _ want.5);
     computed = [];
@@ -88,18 +88,22 @@ module _ (Ref : Type 0 → Type 0) (now : (X : Type 0) → Ref X → X) where
   indexes_of [] = []
   indexes_of (want ∷ wanted) = index_before want.1 want.2 (indexes_of wanted)
 
--- the same in a call
-abbrev shown : (X : Type 0) → Bor X → X
-shown X it = it.now
+-- what a reference of a call lends
+abbrev read_reference : (X : Type 0) → Bor X → X
+read_reference X it = it.now
 
+-- the column that a description asks for
 abbrev pub column_wanted : WantedColumn Bor → Column
-column_wanted = column_of Bor shown
+column_wanted = column_of Bor read_reference
 
+-- the reference that it asks for
 abbrev pub reference_wanted : WantedReference Bor → Reference
-reference_wanted = reference_of Bor shown
+reference_wanted = reference_of Bor read_reference
 
+-- the table that it asks for
 abbrev pub table_wanted : WantedTable Bor → Table
-table_wanted = table_of Bor shown
+table_wanted = table_of Bor read_reference
 
+-- the indexes that descriptions ask for
 abbrev pub indexes_wanted : List (WantedTable Bor) → List Index
-indexes_wanted = indexes_of Bor shown
+indexes_wanted = indexes_of Bor read_reference

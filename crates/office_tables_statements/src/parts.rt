@@ -93,7 +93,7 @@ fn is_comparison(nodes: &[Op], root: usize, want: &WantedCheck) -> bool
 }
 
 /// Whether the terms with these roots are one, the wanted comparison.
-fn compare(nodes: &[Op], roots: &[usize], want: &WantedCheck) -> bool
+fn is_check(nodes: &[Op], roots: &[usize], want: &WantedCheck) -> bool
     ensures { IsTrue result ↔ (terms_in nodes.now roots.now ≡ checks_wanted (Some want.now)) }
 {
     let [root] = roots else {
@@ -111,7 +111,7 @@ fn are_checks(checks: &Terms, want: &Option<WantedCheck>) -> bool
 {
     match want {
         None => checks.roots.is_empty(),
-        Some(want) => compare(checks.nodes.as_slice(), checks.roots.as_slice(), want),
+        Some(want) => is_check(checks.nodes.as_slice(), checks.roots.as_slice(), want),
     }
 }
 

@@ -1,6 +1,6 @@
 use Rattle.std.proofs.Common.{arith, rules}
 use Rattle.office_tables_statements.proofs.CheckLemmas.{one_compared}
-use Rattle.office_tables_statements.proofs.parts.compare.Goals as goal
+use Rattle.office_tables_statements.proofs.parts.is_check.Goals as goal
 
 pub returns-then-nodes-lt2 : goal.returns-then-nodes-lt2
 returns-then-nodes-lt2 c =
