@@ -4,8 +4,7 @@ use Rattle.sqlite_trees.specs.View.{doubt}
 use Rattle.sqlite.specs.{Order.Row, Tree.Trees, declared.error.Error.Error, Clock.timed, Effect.Database, Effect.IsDatabase, Given.IsPlain, Given.Returns, Given.HasGiven, Given.HasBegun, Listing.understood, Steps.FailsToCommit, Held.Held, Held.state}
 use Rattle.sqlite.specs.State.{State, HasCleanDisk, Survives, CommitsShowing, IsUnchanged, IsRolledBack, Shown, ShowsRows, FailsToQuery, FailsToShow, IsNotRun, ExecutesInside, IsTooLate, Begins, Fails}
 use Rattle.sqlite_schema.specs.declared.command.Returning.{Returning}
-use Rattle.sqlite_trees.specs.declared.store.Store as store
-use Rattle.office_tables_statements.specs.Schema.{office_schema}
+use Rattle.office_tables_statements.specs.{Schema.office_schema, Tables.IsListText, Tables.row_shown, Tables.stored_for}
 use Rattle.office_tables_statements.specs.Calls.{AreOrdered, IsHonest, IsOffice, IsReady, IsStatement, Keeps, Reads, Ran, StandsOn, command_of}
 use Rattle.sqlite.proofs.Callers.{reads_as, runs_as, survives_begin, begins_shown, EndsIn}
 use Rattle.sqlite.proofs.StateLemmas.{survives_then, survives_weaker}
@@ -15,7 +14,7 @@ use Rattle.std.proofs.lemmas.List.{map-append}
 use Rattle.sqlite_rules.specs.Lists.{Has}
 use Rattle.sqlite_rules.proofs.ListLemmas.{has_left, has_right}
 use Rattle.office_tables_shelf.specs.{declared.rows.Table.Table, Cells.Cell}
-use Rattle.office_tables_statements.specs.Tables.{IsListText, row_shown, stored_for}
+use Rattle.sqlite_trees.specs.declared.store.Store as store
 
 abbrev pub IsUndisturbed : State → State → Type 0
 IsUndisturbed old new = IsUnchanged old new ⊎ IsRolledBack old new

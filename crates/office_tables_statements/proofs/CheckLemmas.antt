@@ -2,11 +2,11 @@
 use Rattle.std.proofs.Common.{◌≡◌, ◌≢◌, ◌↔◌, ℕ, zero, suc, ◌<◌, ◌≤◌, ℤ, List, [], ◌∷◌, length, Option, None, Some, unwrap_or, slice_get, slice_index_or, refl, sym, ap, ◌∙◌, arith}
 use Rattle.std.proofs.lemmas.Option.{unwrap_or-slice_get, get_or_from_slice_get}
 use Rattle.sqlite_value.specs.declared.value.Value.TheVariants.{Null, Int}
-use Rattle.sqlite_value.specs.declared.keys.Collation.TheVariants as collation
 use Rattle.sqlite_sql.specs.{Term.Term, Term.lit, Term.col, Term.op2, declared.ops.BinaryOp.TheVariants.Compare}
 use Rattle.sqlite_schema.specs.{Code.op_term, Code.term_to, Code.term_in, Code.terms_in, declared.code.Op.Op}
 use Rattle.sqlite_schema.specs.declared.code.Op.TheVariants.{Literal, Column, Unary, Binary, Case}
 use Rattle.office_tables_statements.specs.{Wanted.ComparesAt, declared.parts.WantedCheck.WantedCheck}
+use Rattle.sqlite_value.specs.declared.keys.Collation.TheVariants as collation
 
 -- a term that is no NULL is that of a node
 module _ (ops : List Op) where

@@ -4,7 +4,6 @@ use Rattle.std.proofs.lemmas.{Bool.cases_Bool, Bool.false_from_ne_true, Bool.not
 use Rattle.std.specs.{Cmp.tied_itself, Cmp.eq_by_cmp_equiv, List.IsDistinct, List.Sorted.IsPermutation, declared.cmp.Ordering.TheVariants.Less, declared.cmp.Ordering.TheVariants.Equal, Ordering.is_eq, Ordering.eq_by_cmp}
 use Rattle.std.specs.FinMap.{get, insert, retain_keys, same_map, get-insert, get-retain_keys}
 use Rattle.sqlite.specs.{declared.types.Value.TheVariants.Int, Order.Row, Order.value_cmp, Tree.rowid, Tree.has_rowid, Tree.put_row, Tree.without_rowid, Tree.IsTable, View.IsShaped, Edit.are_fresh, Edit.without_all, Edit.id_in}
-use Rattle.sqlite_trees.specs.declared.store.Shape.TheVariants as shape
 use Rattle.sqlite_trees.proofs.ListLemmas.{all_from_map, all-permutation}
 use Rattle.sqlite_value.proofs.OrderLemmas.{value_cmp_total}
 use Rattle.sqlite_rules.specs.{Calls.ids_of, Lists.Has}
@@ -13,6 +12,7 @@ use Rattle.sqlite_rules.proofs.{ProbeLemmas.has_mapped, ProbeLemmas.mapped_has, 
 use Rattle.office_tables_shelf.specs.Cells.{Cell, cells_cmp, rows_by}
 use Rattle.office_tables_shelf.proofs.CellLemmas.{cells_total, cells_exact, is_under, get_by, tied}
 use Rattle.office_tables_statements.specs.{Stored.cells_at, Stored.rows_in, Layout.Layout}
+use Rattle.sqlite_trees.specs.declared.store.Shape.TheVariants as shape
 
 pub permuted : {X : Type 0} (xs ys : List X) → IsPermutation xs ys → (y : X) → Has ys y → Has xs y
 permuted xs ys same y there = all_has (Has xs) ys y (all-permutation (Has xs) xs ys same (all_from (Has xs) xs (λ x h. h))) there

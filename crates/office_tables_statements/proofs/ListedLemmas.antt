@@ -1,10 +1,8 @@
 -- Rows of which no two have the same key, and a query with ORDER BY over the whole key: it shows the rows of a table as its map has them.
 use Rattle.std.proofs.Common.{◌≡◌, inl, inr, ℕ, ◌+◌, ◌<◌, Bool, false, List, [], ◌∷◌, ◌++◌, map, filter, length, get_or, Ordering, refl, sym, ap, subst, subst₂, ◌∙◌, arith, ℤ, suc, true, not, ◌&&◌, cond, None, option_map, is_some, Less, Equal, true≢false}
 use Rattle.std.proofs.lemmas.Bool.{cases_Bool, false_from_ne_true, and_from, not-true}
-use Rattle.std.proofs.lemmas.List.{get_or_default, length-map, Sorted.IsPermutation-map}
-use Rattle.std.proofs.lemmas.Map.Keys.{IsDistinct-IsPermutation}
-use Rattle.std.specs.{Cmp.eq_by_cmp_equiv, List.IsDistinct, List.list_all, FinMap.entries, FinMap.get, FinMap.len, FinMap.entries_sorted, FinMap.get-entries, FinMap.len-entries, FinMap.len-empty, FinMap.len-insert, FinMap.Entries.where_key, List.Sorted.IsPermutation, List.Sorted.IsSorted, Ordering.is_lt, Ordering.eq_by_cmp}
-use Rattle.std.specs.FinMap.Entries.{is_sorted-where_key, find-where_key, same_entries}
+use Rattle.std.proofs.lemmas.{List.get_or_default, List.length-map, List.Sorted.IsPermutation-map, Map.Keys.IsDistinct-IsPermutation}
+use Rattle.std.specs.{Cmp.eq_by_cmp_equiv, List.IsDistinct, List.list_all, FinMap.entries, FinMap.get, FinMap.len, FinMap.entries_sorted, FinMap.get-entries, FinMap.len-entries, FinMap.len-empty, FinMap.len-insert, FinMap.Entries.where_key, List.Sorted.IsPermutation, List.Sorted.IsSorted, Ordering.is_lt, Ordering.eq_by_cmp, FinMap.Entries.is_sorted-where_key, FinMap.Entries.find-where_key, FinMap.Entries.same_entries}
 use Rattle.sqlite.specs.{Order.Row, Order.column, Order.row_cmp, Order.value_cmp, Ops.binary, Query.inner, Query.end, Query.IsAnswer, Query.output, Query.Output, Query.matches, Term.Term, Term.holds, Tree.Trees, Tree.rowid, Tree.IsTable, Schema.Schema, declared.types.Value.TheVariants.Int, Table.Table, View.IsShaped}
 use Rattle.sqlite_sql.specs.Query.{output_cmp}
 use Rattle.sqlite_rules.specs.Lists.{Has}
@@ -15,13 +13,12 @@ use Rattle.office_tables_shelf.specs.Cells.{Cell, cells_cmp, rows_by}
 use Rattle.office_tables_shelf.proofs.CellLemmas.{cells_total, cells_exact, is_under, find_entry, get_by}
 use Rattle.office_tables_shelf.proofs.ListLemmas.{entry, listed, strictly, IsIn, entries_filter}
 use Rattle.office_tables_statements.specs.{Layout.Layout, Layout.values_at, Tables.listed_by, Stored.cells_at, Stored.rows_in}
-use Rattle.office_tables_statements.proofs.StoredLemmas.{HaveKeys, same_order, agree_ties}
-use Rattle.office_tables_statements.proofs.{QueryLemmas.matched, ContentLemmas.permuted, ContentLemmas.find_none}
-use Rattle.std.specs.FinMap as finite
-use Rattle.sqlite_trees.specs.declared.store.Shape.TheVariants as shape
+use Rattle.office_tables_statements.proofs.{StoredLemmas.HaveKeys, StoredLemmas.same_order, StoredLemmas.agree_ties, QueryLemmas.matched, ContentLemmas.permuted, ContentLemmas.find_none}
 use Rattle.sqlite_schema.specs.declared.schema.{Index.Index, Constraint.TheVariants.Unique}
 use Rattle.sqlite_schema.specs.Rules.{agree, clashes, differ, guards, Obeys}
 use Rattle.sqlite_value.specs.Keys.{plain}
+use Rattle.std.specs.FinMap as finite
+use Rattle.sqlite_trees.specs.declared.store.Shape.TheVariants as shape
 
 -- what stands in a list, in the shelf's word
 

@@ -1,21 +1,14 @@
 -- A text that has no RETURNING over one schema has none over any other, so a query of the office commits nothing.
 use Rattle.std.proofs.Common.{◌≡◌, ◌==◌, true≢false, Bool, false, is_none, ℕ, inl, inr, List, [], length, true, Option, Some, None, Result, Ok, Err, refl, sym, ap, subst, ◌∙◌}
 use Rattle.std.proofs.lemmas.Bool.{cases_Bool}
-use Rattle.sqlite_ast.specs.declared.Shown.{Shown}
-use Rattle.sqlite_ast.specs.declared.Statement.{Statement}
-use Rattle.sqlite_ast.specs.declared.Statement.TheVariants as written
+use Rattle.sqlite_ast.specs.declared.{Shown.Shown, Statement.Statement}
 use Rattle.sqlite_syntax.specs.declared.statement.Parsed.{Parsed}
-use Rattle.sqlite_schema.specs.declared.command.Command.{Command}
-use Rattle.sqlite_schema.specs.declared.command.Returning.{Returning}
-use Rattle.sqlite_schema.specs.declared.schema.Schema.{Schema}
-use Rattle.sqlite_resolve.specs.declared.compiled.Compiled.{Compiled}
-use Rattle.sqlite_resolve.specs.Body.{table_at}
-use Rattle.sqlite_resolve.specs.Given.{returned}
+use Rattle.sqlite_schema.specs.declared.{command.Command.Command, command.Returning.Returning, schema.Schema.Schema}
+use Rattle.sqlite_resolve.specs.{declared.compiled.Compiled.Compiled, Body.table_at, Given.returned, Lowering.Checked, Lowering.and_then, Scope.Name}
 use Rattle.sqlite_resolve.specs.Compile.{target, source_of, compiled, first, planned, meaning, command, returning, shows, with_command}
-use Rattle.sqlite_resolve.specs.Lowering.{Checked, and_then}
-use Rattle.sqlite_resolve.specs.Scope.{Name}
 use Rattle.sqlite.specs.Given.{IsPlain, Returns}
 use Rattle.sqlite.specs.Listing.{understood, reads_listing, if_select, is_select, listing_schema}
+use Rattle.sqlite_ast.specs.declared.Statement.TheVariants as written
 
 -- what a statement shows of the rows that it writes
 abbrev shown_by : Statement → List Shown

@@ -2,16 +2,14 @@
 use Rattle.std.proofs.Common.{◌≡◌, ℕ, zero, suc, ◌+◌, Bool, true, false, not, ◌&&◌, ◌||◌, List, [], ◌∷◌, drop, slice_get, Option, None, Some, refl, sym, subst, subst₂, true≢false, arith}
 use Rattle.std.proofs.lemmas.Bool.{and_parts, and_from}
 use Rattle.std.specs.List.{list_all}
-use Rattle.sqlite.specs.{declared.types.Value.Value, Kind.Kind, Ops.is_null, Schema.Schema, Order.Row, Order.column, Table.Table, Tree.Trees}
-use Rattle.sqlite.specs.declared.types.Value.TheVariants.{Null, Int, Text}
-use Rattle.sqlite.specs.Kind.TheVariants as kind
-use Rattle.sqlite_schema.specs.declared.schema.Column.{Column}
-use Rattle.sqlite_schema.specs.declared.schema.Constraint.TheVariants.{Datatype, NotNull}
+use Rattle.sqlite.specs.{declared.types.Value.Value, Kind.Kind, Ops.is_null, Schema.Schema, Order.Row, Order.column, Table.Table, Tree.Trees, declared.types.Value.TheVariants.Null, declared.types.Value.TheVariants.Int, declared.types.Value.TheVariants.Text}
+use Rattle.sqlite_schema.specs.declared.schema.{Column.Column, Constraint.TheVariants.Datatype, Constraint.TheVariants.NotNull}
 use Rattle.sqlite_schema.specs.Rules.{suits, is_of, are_typed, are_present, Obeys}
 use Rattle.sqlite_rules.specs.Lists.{Has}
 use Rattle.sqlite_rules.proofs.RuleLemmas.{keeps_at}
 use Rattle.office_tables_statements.specs.{Layout.Layout, Stored.is_sound, Stored.are_sound}
 use Rattle.office_tables_statements.proofs.StoredLemmas.{HaveKeys}
+use Rattle.sqlite.specs.Kind.TheVariants as kind
 
 abbrev is_sound_kind : Kind → Bool
 is_sound_kind kind.Integer = true

@@ -2,9 +2,7 @@
 use Rattle.std.proofs.Common.{◌≡◌, ℕ, Bool, true, false, List, [], ◌∷◌, find, cond, Option, None, Some, option_map, int_cmp, refl, sym, ap, subst, ◌∙◌, true≢false, inl, inr}
 use Rattle.std.proofs.lemmas.Bool.{and_parts, and_from}
 use Rattle.std.specs.{Cmp.both_tied, Cmp.eq_by_cmp_equiv, FinMap.get, Ordering.is_eq, Ordering.ordering_then}
-use Rattle.sqlite.specs.{Collation.TheVariants.Binary, declared.types.Value.Value, Tree.rowid, declared.types.Value.TheVariants.Int, declared.types.Value.TheVariants.Text, Order.Row, Order.column, Order.value_cmp, Order.row_cmp, View.IsShaped}
-use Rattle.sqlite.specs.Ops.{binary, is_true, from_truth}
-use Rattle.sqlite_trees.specs.declared.store.Shape.TheVariants as shape
+use Rattle.sqlite.specs.{Collation.TheVariants.Binary, declared.types.Value.Value, Tree.rowid, declared.types.Value.TheVariants.Int, declared.types.Value.TheVariants.Text, Order.Row, Order.column, Order.value_cmp, Order.row_cmp, View.IsShaped, Ops.binary, Ops.is_true, Ops.from_truth}
 use Rattle.sqlite_rules.proofs.{ListLemmas.all_has, TableLemmas.int_is}
 use Rattle.sqlite_schema.specs.Rules.{agree, equal}
 use Rattle.sqlite_value.specs.Keys.{plain, first_key}
@@ -14,6 +12,7 @@ use Rattle.office_tables_shelf.specs.Cells.{Cell, cell_cmp, cells_cmp}
 use Rattle.office_tables_shelf.proofs.CellLemmas.{cells_total, is_under, get_by}
 use Rattle.office_tables_statements.specs.Layout.{Layout, values_at, has_key}
 use Rattle.office_tables_statements.specs.Stored.{cell_of, cells, cells_at, rows_in, is_sound, are_sound}
+use Rattle.sqlite_trees.specs.declared.store.Shape.TheVariants as shape
 
 -- ---- SQL's =
 

@@ -4,23 +4,22 @@ use Rattle.std.proofs.lemmas.{Bool.and_parts, Bool.false_from_ne_true, List.map-
 use Rattle.std.specs.{Cmp.eq_by_cmp_equiv, List.AllByRecursion, List.IsDistinct, List.Sorted.IsPermutation, Ordering.is_eq, Ordering.eq_by_cmp}
 use Rattle.std.specs.FinMap.{get, insert, remove, retain_keys, same_map, get-remove, get-retain_keys}
 use Rattle.sqlite.specs.{declared.types.Value.Value, declared.types.Value.TheVariants.Null, declared.types.Value.TheVariants.Int, declared.types.Value.TheVariants.Text, Cast.cast_row, Command.TheVariants.Delete, Edit.Edit, Edit.edit_of, Edit.id_in, Edit.taken_by, Edit.with_rowid, Edit.without_all, Rowids.TheVariants.Chosen, Rowids.TheVariants.Given, Order.Row, Order.column, Program.overlay, Rows.Edited, Rows.Written, State.State, Term.Term, Term.lit, Term.col, Term.eval_all, Tree.Trees, Tree.rowid, Tree.put_row, View.IsShaped}
-use Rattle.sqlite.specs.Kind.TheVariants as kind
 use Rattle.sqlite_schema.specs.declared.schema.Keys.TheVariants.{Enforced}
-use Rattle.sqlite_trees.specs.declared.store.Shape.TheVariants as shape
 use Rattle.sqlite_trees.proofs.ListLemmas.{all-map}
 use Rattle.sqlite_rules.specs.{Calls.ids_of, Lists.Has}
 use Rattle.sqlite_rules.proofs.{ListLemmas.all_from, ListLemmas.all_has, ListLemmas.has_filtered, TableLemmas.int_is, TableLemmas.has_put, TableLemmas.put_has, TableLemmas.put_all_keeps, TableLemmas.without_all_has, ProbeLemmas.has_mapped}
 use Rattle.office_tables_shelf.specs.{Cells.Cell, Cells.TableRows, Cells.cells_cmp, Cells.null, Content.Content, Content.rows_but, Shelf.is_of, declared.rows.Table.Table}
 use Rattle.office_tables_shelf.proofs.CellLemmas.{cells_total, cells_exact, tied}
-use Rattle.office_tables_statements.specs.{Calls.IsReady, Calls.IsTurned, Calls.Means, Calls.Ran, Layout.has_key, Layout.values_at}
+use Rattle.office_tables_statements.specs.{Calls.IsReady, Calls.IsTurned, Calls.Means, Calls.Ran, Layout.has_key, Layout.values_at, Schema.office_schema}
 use Rattle.office_tables_statements.specs.Stored.{cell_of, cells_at, content_now, rows_in, is_sound, are_sound}
 use Rattle.office_tables_statements.specs.Tables.{beside_rowid, id_given, is_keyed, others_given, source_at, rows_at, with_rows, layout_at, schema_at, place_at, renewed_at, put_in, remove_in, key_given, value_of, values_of, IsKeyOf, IsUpdateText, IsInsertText, IsRemoveText, takes, of_first, of_key, drop_in, IsDropText, picked_where}
-use Rattle.office_tables_statements.specs.Schema.{office_schema}
 use Rattle.office_tables_statements.proofs.{Casts.cast_int, Casts.cast_one, Casts.cast_suited, Fits.Fits, Fits.fits as fits_taken, Fits.row_given, Fits.stored_beside, ListedLemmas.distinct_kept, QueryLemmas.Passes, QueryLemmas.cols, QueryLemmas.filter_agrees, QueryLemmas.picked, QueryLemmas.shown_values, QueryLemmas.where_picked, StoredLemmas.HaveKeys, StoredLemmas.agree_ties, TableLemmas.each, TableLemmas.is_placed}
 use Rattle.office_tables_statements.proofs.ContentLemmas.{tie_self, permuted, AreApart, left, joined, gone, stays, put_at}
 use Rattle.office_tables_statements.proofs.WriteLemmas.{Added, adds, went_on, same_value, wrote, Moved, moved, cut}
 use Rattle.office_tables_statements.proofs.TableLemmas.{is_uncounted, is_idle, facts, in_tree, only_in, apart}
 use Rattle.office_tables_statements.proofs.StoredLists.{distinct, shaped, own_keys, seen}
+use Rattle.sqlite.specs.Kind.TheVariants as kind
+use Rattle.sqlite_trees.specs.declared.store.Shape.TheVariants as shape
 
 -- ---- values and their cells
 

@@ -7,17 +7,14 @@ use Rattle.sqlite_rules.specs.Lists.{Has}
 use Rattle.sqlite_rules.proofs.ListLemmas.{all_has, has_got}
 use Rattle.sqlite_schema.specs.{Rules.guards, declared.schema.Index.Index}
 use Rattle.sqlite_value.specs.Keys.{plain, first_key}
-use Rattle.office_tables_shelf.specs.{Cells.TableRows, Cells.number, Cells.cell_cmp, Cells.cells_cmp, Shelf.is_of, Content.Content, Content.is_same_table}
-use Rattle.office_tables_shelf.specs.declared.rows.Table.{Table}
-use Rattle.office_tables_shelf.specs.declared.rows.Table.TheVariants as table
-use Rattle.office_tables_statements.specs.Schema.{office_schema}
-use Rattle.office_tables_statements.specs.Layout.{office_version}
+use Rattle.office_tables_shelf.specs.{Cells.TableRows, Cells.number, Cells.cell_cmp, Cells.cells_cmp, Shelf.is_of, Content.Content, Content.is_same_table, declared.rows.Table.Table}
+use Rattle.office_tables_statements.specs.{Schema.office_schema, Layout.office_version}
 use Rattle.office_tables_statements.specs.Stored.{cells_at, rows_in, content_of, are_sound, cell_of}
 use Rattle.office_tables_statements.specs.Tables.{rows_at, with_rows, layout_at, schema_at, place_at, key_shown, columns_shown, filter_of, of_first, params_of, rows_among, is_among, of_key}
-use Rattle.office_tables_statements.proofs.{ListedLemmas.IsListing, QueryLemmas.ArePaired, SoundLemmas.has_key_at, WriteLemmas.IsIdle}
-use Rattle.office_tables_statements.proofs.StoredLemmas.{agree_ties}
+use Rattle.office_tables_statements.proofs.{ListedLemmas.IsListing, QueryLemmas.ArePaired, SoundLemmas.has_key_at, WriteLemmas.IsIdle, StoredLemmas.agree_ties}
 use Rattle.sqlite_value.proofs.OrderLemmas.{then-Equal}
 use Rattle.office_tables_shelf.proofs.{CellLemmas.cell_total, ListLemmas.where_all}
+use Rattle.office_tables_shelf.specs.declared.rows.Table.TheVariants as table
 
 -- the first key column is the parameter where its cell is that number
 first_is : (p id : ℕ) (rest : List ℕ) (row : Row) → are_sound (p ∷ rest) row ≡ true

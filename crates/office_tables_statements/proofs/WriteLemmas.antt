@@ -2,17 +2,15 @@
 use Rattle.std.proofs.Common.{◌≡◌, ◌≢◌, ◌⊎◌, inl, inr, ℕ, ℤ, ◌==◌, List, [], ◌∷◌, length, slice_get, unwrap_or, not, true, false, Option, None, Some, Result, Ok, Err, sym, ap, subst, ◌∙◌, true≢false, eq-eqb, Bool, cond, MatchBool}
 use Rattle.std.proofs.lemmas.Bool.{cases_Bool, eqb-true, not-true, and_parts}
 use Rattle.std.specs.List.{AllByRecursion}
-use Rattle.sqlite.specs.{declared.types.Value.TheVariants.Null, Command.TheVariants.Delete, Edit.Edit, Edit.edited, Edit.left_by, Program.overlay, Query.Query, Query.IsAnswer, Rows.Edited, Rowids.TheVariants.Given}
-use Rattle.sqlite_rules.specs.Calls.{ids_of}
-use Rattle.sqlite.specs.{Command.Command, declared.error.Error.Error, Effect.Database, Order.Row, Does.Tally, Does.Does, Does.AtPlace, Does.OnRows, Does.WritesRows, Edit.without_all, Edit.edit_of, Edit.with_rowid, Edit.is_taken, Edit.are_fresh, Edit.put_all, Edit.have_rowids, Edit.taken_by, Listing.understood, Schema.Schema, Table.Table, View.IsShaped, View.is_int, Rows.Task, Rows.Written, Rows.Part, Rows.Gives, Rows.Inserts, Rows.CountsIn, Rows.Sourced, Rows.sequence, Rows.stamped, Rows.count_of, Rows.rowids_for, State.State, State.Runs, State.Writes, State.mode_of, Cast.cast_row, Tree.Trees, Tree.has_rowid, Tree.without_rowid, Tree.rowid, Tree.put_row, Rowids.TheVariants.Above, Rowids.TheVariants.Chosen, Source.Source}
-use Rattle.sqlite_rules.specs.Action.{works}
+use Rattle.sqlite.specs.{declared.types.Value.TheVariants.Null, Command.TheVariants.Delete, Edit.Edit, Edit.edited, Edit.left_by, Program.overlay, Query.Query, Query.IsAnswer, Rows.Edited, Rowids.TheVariants.Given, Command.Command, declared.error.Error.Error, Effect.Database, Order.Row, Does.Tally, Does.Does, Does.AtPlace, Does.OnRows, Does.WritesRows, Edit.without_all, Edit.edit_of, Edit.with_rowid, Edit.is_taken, Edit.are_fresh, Edit.put_all, Edit.have_rowids, Edit.taken_by, Listing.understood, Schema.Schema, Table.Table, View.IsShaped, View.is_int, Rows.Task, Rows.Written, Rows.Part, Rows.Gives, Rows.Inserts, Rows.CountsIn, Rows.Sourced, Rows.sequence, Rows.stamped, Rows.count_of, Rows.rowids_for, State.State, State.Runs, State.Writes, State.mode_of, Cast.cast_row, Tree.Trees, Tree.has_rowid, Tree.without_rowid, Tree.rowid, Tree.put_row, Rowids.TheVariants.Above, Rowids.TheVariants.Chosen, Source.Source}
+use Rattle.sqlite_rules.specs.{Calls.ids_of, Action.works}
 use Rattle.sqlite_schema.specs.declared.schema.Keys.TheVariants.{Enforced}
-use Rattle.sqlite_trees.specs.declared.store.Shape.TheVariants as shape
 use Rattle.sqlite_trees.proofs.{ListLemmas.all_both, TreeLemmas.IsShaped-filter, TreeLemmas.IsShaped-put_row}
 use Rattle.office_tables_statements.specs.Calls.{IsReady, Means, Ran, statement_of}
 use Rattle.office_tables_statements.specs.Schema.{office_schema}
 use Rattle.office_tables_statements.proofs.Meaning.{is_command}
 use Rattle.sqlite.proofs.Callers.{one_step}
+use Rattle.sqlite_trees.specs.declared.store.Shape.TheVariants as shape
 
 -- no foreign key acts on what a table loses
 pub record IsIdle (schema : Schema) (table : Table) : Type 0 where

@@ -1,12 +1,11 @@
 -- Where each table keeps its key and its other columns.
 use Rattle.std.specs.Prelude.{ℕ, suc, Bool, List, [], ◌∷◌, drop, length, map}
 use Rattle.sqlite.specs.Order.{Row, column}
-use Rattle.sqlite_schema.specs.Rules.{agree}
-use Rattle.sqlite_schema.specs.declared.schema.Table.{Table as SqlTable}
+use Rattle.sqlite_schema.specs.{Rules.agree, declared.schema.Table.Table as SqlTable}
 use Rattle.sqlite_value.specs.Keys.{plain}
 use Rattle.office_tables_shelf.specs.declared.rows.Table.{Table}
-use Rattle.office_tables_shelf.specs.declared.rows.Table.TheVariants as table
 use Rattle.office_tables_statements.specs.Schema.{table_in_place, version_table}
+use Rattle.office_tables_shelf.specs.declared.rows.Table.TheVariants as table
 
 -- where a table keeps its rows: its tree, the places of its key and of its other columns in a stored row, whose
 -- rowid is at place 0, and the places of the cells of a key that stands by itself

@@ -1,17 +1,11 @@
 -- The trees of a database as the content of a shelf.
 use Rattle.std.specs.Prelude.{◌≡◌, ◌≢◌, ◌<◌, ℕ, Bool, true, false, List, length, map, Option, None, Some, Result, Err, IfOk}
 use Rattle.std.specs.List.{list_all}
-use Rattle.sqlite.specs.declared.types.Value.{Value}
-use Rattle.sqlite.specs.declared.types.Value.TheVariants.{Null, Int, Text}
-use Rattle.sqlite.specs.Order.{Row, column}
-use Rattle.sqlite.specs.State.{State}
-use Rattle.sqlite.specs.Tree.{Trees}
+use Rattle.sqlite.specs.{declared.types.Value.Value, declared.types.Value.TheVariants.Null, declared.types.Value.TheVariants.Int, declared.types.Value.TheVariants.Text, Order.Row, Order.column, State.State, Tree.Trees}
 use Rattle.office_tables_shelf.specs.Cells.{Cell, TableRows, rows_by, null, number, text, odd}
-use Rattle.office_tables_shelf.specs.Content.{Content}
-use Rattle.office_tables_shelf.specs.declared.shelf.ShelfFault.{ShelfFault}
-use Rattle.office_tables_shelf.specs.declared.shelf.ShelfFault.TheVariants.{Damaged}
-use Rattle.office_tables_shelf.specs.declared.rows.Table.TheVariants as table
+use Rattle.office_tables_shelf.specs.{Content.Content, declared.shelf.ShelfFault.ShelfFault, declared.shelf.ShelfFault.TheVariants.Damaged}
 use Rattle.office_tables_statements.specs.Layout.{Layout, layout_at, values_at}
+use Rattle.office_tables_shelf.specs.declared.rows.Table.TheVariants as table
 
 -- a value of SQL as a cell: a real number and a blob are odd, which no office stores
 abbrev pub cell_of : Value → Cell

@@ -1,38 +1,20 @@
 -- The eight tables by their names: where each keeps its rows, and what its statements mean.
 use Rattle.std.specs.Prelude.{◌≡◌, ℕ, suc, pos, negsuc, Bool, true, false, ◌&&◌, cond, List, [], ◌∷◌, ◌++◌, map, length, Option, Some, None, IfSome, is_none, slice_get, unwrap_or, codes}
-use Rattle.std.specs.List.{list_all}
-use Rattle.std.specs.Option.{option_map}
-use Rattle.std.specs.FinMap.{get, entries}
+use Rattle.std.specs.{List.list_all, Option.option_map, FinMap.get, FinMap.entries}
 use Rattle.sqlite.specs.Command.TheVariants.{Select, Insert, Update, Delete}
-use Rattle.sqlite.specs.Kind.{Kind}
-use Rattle.sqlite.specs.Kind.TheVariants as kind
-use Rattle.sqlite.specs.declared.types.Value.{Value}
-use Rattle.sqlite.specs.declared.types.Value.TheVariants.{Null, Int, Text}
-use Rattle.sqlite.specs.Order.{Row}
-use Rattle.sqlite.specs.Query.{Query, inner, end}
-use Rattle.sqlite.specs.Source.{Source}
-use Rattle.sqlite.specs.Source.TheVariants.{Values}
+use Rattle.sqlite.specs.{Kind.Kind, declared.types.Value.Value, declared.types.Value.TheVariants.Null, declared.types.Value.TheVariants.Int, declared.types.Value.TheVariants.Text, Order.Row, Query.Query, Query.inner, Query.end, Source.Source, Source.TheVariants.Values, Collation.TheVariants.Binary}
 use Rattle.sqlite.specs.Term.{Term, lit, col, op2}
-use Rattle.sqlite.specs.Collation.TheVariants.{Binary}
 use Rattle.sqlite_schema.specs.declared.schema.Column.{Column}
-use Rattle.sqlite_sql.specs.Group.{Grouping}
-use Rattle.sqlite_sql.specs.declared.aggregate.AggregateOp.TheVariants.{CountRows}
-use Rattle.sqlite_sql.specs.declared.ops.BinaryOp.TheVariants.{Compare}
-use Rattle.sqlite_sql.specs.declared.ops.CompareOp.TheVariants.{Eq}
-use Rattle.sqlite_value.specs.Keys.{ascending}
-use Rattle.sqlite_value.specs.declared.keys.Key.{Key as SqlKey}
-use Rattle.signal_records.specs.Key.{kind_of, first_of, second_of}
-use Rattle.signal_records.specs.declared.key.Key.{Key}
+use Rattle.sqlite_sql.specs.{Group.Grouping, declared.aggregate.AggregateOp.TheVariants.CountRows, declared.ops.BinaryOp.TheVariants.Compare, declared.ops.CompareOp.TheVariants.Eq}
+use Rattle.sqlite_value.specs.{Keys.ascending, declared.keys.Key.Key as SqlKey}
+use Rattle.signal_records.specs.{Key.kind_of, Key.first_of, Key.second_of, declared.key.Key.Key}
 use Rattle.office_tables_shelf.specs.Cells.{Cell, TableRows, null, number, text, odd}
-use Rattle.office_tables_shelf.specs.Content.{Content}
+use Rattle.office_tables_shelf.specs.{Content.Content, Shelf.rows_of, declared.rows.Table.Table}
 pub use Rattle.office_tables_shelf.specs.Content.{rows_at, place_at, with_rows, put_in, remove_in, drop_in}
 pub use Rattle.office_tables_shelf.specs.Reads.{is_among, IsNoRow, HasDamagedRow, ReadsRow, HasDamagedUnder}
-use Rattle.office_tables_shelf.specs.Shelf.{rows_of}
-use Rattle.office_tables_shelf.specs.declared.rows.Table.{Table}
-use Rattle.office_tables_statements.specs.Calls.{Means}
-use Rattle.office_tables_statements.specs.Layout.{Layout, places_from}
+use Rattle.office_tables_statements.specs.{Calls.Means, Layout.Layout, Layout.places_from, Stored.cells_at, Stored.are_sound, Stored.is_sound}
 pub use Rattle.office_tables_statements.specs.Layout.{schema_at, layout_at}
-use Rattle.office_tables_statements.specs.Stored.{cells_at, are_sound, is_sound}
+use Rattle.sqlite.specs.Kind.TheVariants as kind
 
 -- ---- where each table is
 

@@ -1,21 +1,12 @@
 -- What the descriptions of the tables ask of a schema.
 use Rattle.std.specs.Prelude.{◌≡◌, ℕ, suc, Bool, true, false, List, [], ◌∷◌, map, Option, None, Some, slice_get}
 use Rattle.std.specs.Borrow.{Bor}
-use Rattle.sqlite_value.specs.declared.keys.Collation.TheVariants.{Binary}
-use Rattle.sqlite_value.specs.declared.keys.Order.{Order}
-use Rattle.sqlite_value.specs.declared.value.Value.TheVariants.{Null, Int}
-use Rattle.sqlite_value.specs.Keys.{plain}
+use Rattle.sqlite_value.specs.{declared.keys.Collation.TheVariants.Binary, declared.keys.Order.Order, declared.value.Value.TheVariants.Null, declared.value.Value.TheVariants.Int, Keys.plain}
 use Rattle.sqlite_sql.specs.Term.{Term, lit, col, op2}
 use Rattle.sqlite_sql.specs.declared.ops.BinaryOp.TheVariants.{Compare}
-use Rattle.sqlite_schema.specs.declared.code.Op.{Op}
-use Rattle.sqlite_schema.specs.declared.code.Op.TheVariants as op
-use Rattle.sqlite_schema.specs.declared.schema.Action.TheVariants.{NoAction}
-use Rattle.sqlite_schema.specs.declared.schema.Column.{Column}
-use Rattle.sqlite_schema.specs.declared.schema.Index.{Index}
-use Rattle.sqlite_schema.specs.declared.schema.Kind.{Kind}
-use Rattle.sqlite_schema.specs.declared.schema.Reference.{Reference}
-use Rattle.sqlite_schema.specs.declared.schema.Table.{Table}
+use Rattle.sqlite_schema.specs.declared.{code.Op.Op, schema.Action.TheVariants.NoAction, schema.Column.Column, schema.Index.Index, schema.Kind.Kind, schema.Reference.Reference, schema.Table.Table}
 use Rattle.office_tables_statements.specs.declared.parts.WantedCheck.{WantedCheck}
+use Rattle.sqlite_schema.specs.declared.code.Op.TheVariants as op
 
 -- the node at this place is the comparison of a column with a number that a check wants
 abbrev pub ComparesAt : List Op → ℕ → WantedCheck → Type 0

@@ -3,16 +3,9 @@
 
 ghost use Rattle.std.specs.Prelude.{◌≡◌, ◌≢◌, ◌<◌, ◌≤◌, pos, length, Option, None, Some, IfOk, IfSome, OnOk, Ok};
 ghost use Rattle.sqlite.specs.Order.{column};
-ghost use Rattle.signal_records.specs.Key.{kind_of, first_of, second_of};
-ghost use Rattle.signal_records.specs.KeyOrder.{key_at};
-ghost use Rattle.signal_records.specs.Within.{IsRowWithin, IsKeyWithin, current_limits};
-ghost use Rattle.signal_records.specs.declared.key.Key.{Key};
-ghost use Rattle.signal_records.specs.declared.record.Row.{Row};
-ghost use Rattle.office_tables_shelf.specs.Cells.{number, text, null};
-ghost use Rattle.office_tables_shelf.specs.Rows.{body_in, timing_key};
-ghost use Rattle.office_tables_statements.specs.Stored.{cell_of};
-ghost use Rattle.office_tables_statements.specs.Listed.{shown_key};
-ghost use Rattle.office_tables_statements.specs.Versions.{limits_of};
+ghost use Rattle.signal_records.specs.{Key.kind_of, Key.first_of, Key.second_of, KeyOrder.key_at, Within.IsRowWithin, Within.IsKeyWithin, Within.current_limits, declared.key.Key.Key, declared.record.Row.Row};
+ghost use Rattle.office_tables_shelf.specs.{Cells.number, Cells.text, Cells.null, Rows.body_in, Rows.timing_key};
+ghost use Rattle.office_tables_statements.specs.{Stored.cell_of, Listed.shown_key, Versions.limits_of};
 
 use crate::body_reading::{Version, row_of_body};
 use crate::value::{number_at, text_or_null_at};

@@ -1,8 +1,7 @@
 //! The tables of the office: what each has to be in a schema.
 
 ghost use Rattle.std.specs.Prelude.{◌≡◌, map};
-ghost use Rattle.office_tables_statements.specs.Layout.{layout_at, schema_at};
-ghost use Rattle.office_tables_statements.specs.Wanted.{column_wanted, table_wanted};
+ghost use Rattle.office_tables_statements.specs.{Layout.layout_at, Layout.schema_at, Wanted.column_wanted, Wanted.table_wanted};
 
 use crate::parts::{WantedCheck, WantedColumn, WantedTable};
 use office_tables_shelf::rows::Table;

@@ -4,8 +4,7 @@ ghost use Rattle.std.specs.Prelude.{◌≡◌, ◌≢◌, ◌≤◌, ◌<◌, �
 ghost use Rattle.sqlite.specs.Order.{column};
 ghost use Rattle.std.specs.Int.{IsInRange};
 ghost use Rattle.signal_values.specs.Words.{AreWords};
-ghost use Rattle.cabinet_core.specs.Day.{IsDay};
-ghost use Rattle.cabinet_core.specs.Part.{IsPartCode};
+ghost use Rattle.cabinet_core.specs.{Day.IsDay, Part.IsPartCode};
 ghost use Rattle.office_tables_shelf.specs.Cells.{null, number, text};
 ghost use Rattle.office_tables_statements.specs.Stored.{ReadsColumn, cell_of, text_or_null};
 ghost use Rattle.signal_records.specs.declared.revision.TheConstants.{LAST_REVISION};
