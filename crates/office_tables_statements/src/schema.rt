@@ -1,7 +1,7 @@
 //! The schema of the office in SQL: the texts that make its tables, and whether a database has
 //! them.
 
-ghost use Rattle.std.specs.Prelude.{◌≡◌, ◌↔◌, map, IsTrue};
+ghost use Rattle.std.specs.Prelude.{◌≡◌, map, IsTrue};
 ghost use Rattle.std.specs.List.{AllByRecursion};
 ghost use Rattle.office_tables_statements.specs.Schema.{office_schema, IsNameAmong, IsOffices};
 
@@ -41,7 +41,8 @@ pub const CREATES: [&str; 9] = [
 /// Whether a database has the nine tables of the office under their numbers, with the indexes of
 /// their keys, and nothing else.
 pub fn is_office(schema: &Schema) -> bool
-    ensures { IsTrue result ↔ (schema.now ≡ office_schema) }
+    ensures is { IsTrue result → schema.now ≡ office_schema }
+    ensures other { schema.now ≡ office_schema → IsTrue result }
 {
     schema.views.is_empty()
         && are_indexes(schema.indexes.as_slice(), &TABLES)
