@@ -11,8 +11,8 @@ use Rattle.office_tables_statements.specs.Schema.{office_schema, version_table}
 use Rattle.office_tables_sql.specs.Version.{version_in, current_version}
 use Rattle.office_tables.specs.Opening.{IsMade}
 use Rattle.office_tables_statements.proofs.QueryLemmas.{AreShaped, found_by_key, has_width}
-use Rattle.office_tables_statements.proofs.WriteLemmas.{Added, adds, IsIdle, wrote}
-use Rattle.office_tables_statements.proofs.{StoredLemmas.get_columns, StoredLemmas.sound_rowids, Casts.cast_int, Casts.cast_null, RemoveLemmas.remove_keyed, ContentLemmas.tie_self, ContentLemmas.put_at, ContentLemmas.free_rowid, TableLemmas.apart, TableLemmas.none_in}
+use Rattle.office_tables_statements.proofs.WriteLemmas.{Added, adds, cut, IsIdle, wrote}
+use Rattle.office_tables_statements.proofs.{StoredLemmas.get_columns, StoredLemmas.sound_rowids, Casts.cast_int, Casts.cast_null, StoredLists.rowids_distinct, ContentLemmas.tie_self, ContentLemmas.put_at, TableLemmas.apart, TableLemmas.none_in}
 use Rattle.sqlite_trees.specs.declared.store.Shape.TheVariants as shape
 use Rattle.office_tables_shelf.proofs.CellLemmas.{cells_total}
 use Rattle.office_tables.specs.declared.version.TheConstants.{FIND as FIND_VERSION, DROP as DROP_VERSION, PUT as PUT_VERSION}
@@ -65,7 +65,7 @@ put_version old new count ready did =
     let it = subst (Added version_table refl version_idle version_source params stored_version old.step_limit old.now.trees) (sym wrote_it.trees)
     (adds version_table refl version_idle version_source params stored_version old.step_limit old.now.trees (λ rows h. h.1) cast_version was wrote_it.written wrote_it.rows) in
     let at : rows_in layout.office_version (new.now.trees 15) ≡ insert (rows_stored layout.office_version old.now.trees) (number (pos 1) ∷ []) current_version =
-    ap (rows_in layout.office_version) it.rows ∙ put_at layout.office_version rows [] stored_version (λ r id there among at_id. absurd among) (free_rowid rows (pos 1) (Null ∷ Int (pos 2) ∷ []) was it.fresh layout.office_version refl) it.fresh in
+    ap (rows_in layout.office_version) it.rows ∙ put_at layout.office_version rows stored_version it.fresh (rowids_distinct rows was) (rowids_distinct _ (subst (IsShaped shape.Table) it.rows it.shapes)) in
     let key = number (pos 1) ∷ [] in (
       wrote_it.goes_on it.others it.shapes,
       (
@@ -77,11 +77,8 @@ put_version old new count ready did =
 drop_version : (old new : State) (count : ℕ) → IsReady old → Ran DROP_VERSION.now (Int (pos 1) ∷ []) old new count → IsReady new × (content_now new ≡ content_now old)
 drop_version old new count ready did =
     let was : IsShaped shape.Table (old.now.trees 15) = ready.ordered.1.1.1.1.1.1.1.1.0 in
-    let it = remove_keyed office_version tt version_table 8 refl (λ trees. refl) version_idle DROP_VERSION.now drop_version_is (Int (pos 1) ∷ []) refl
-    old new count was (sound_rowids office_version refl (old.now.trees 15) was) ready did in (
-      it.0,
-      none_in old.now.trees new.now.trees 15 it.1.others apart,
-    )
+    let it = cut version_table 8 refl version_idle DROP_VERSION.now _ drop_version_is (Int (pos 1) ∷ []) old new count was ready did in
+    (it.ready, none_in old.now.trees new.now.trees 15 it.others apart)
 
 -- today's version in the place of the one that was stored
 pub renewed : (old mid new : State) (dropped put : ℕ) → IsReady old → Ran DROP_VERSION.now (Int (pos 1) ∷ []) old mid dropped

@@ -1,7 +1,6 @@
 -- A row is told by the cell of its text.
 use Rattle.std.proofs.Common.{◌≡◌, [], ◌∷◌}
-use Rattle.signal_records.specs.declared.record.Row.{Row}
-use Rattle.signal_records.specs.Within.{current_limits, IsRowWithin}
+use Rattle.signal_records.specs.{declared.record.Row.Row, Within.current_limits, Within.IsRowWithin}
 use Rattle.signal_records.proofs.RowLaws.{are_current}
 use Rattle.office_tables_shelf.specs.{Cells.Cell, Cells.text, Rows.body_of, Rows.timing_columns}
 use Rattle.office_tables_shelf.proofs.RowLemmas.{same_row}

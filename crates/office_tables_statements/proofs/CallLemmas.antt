@@ -4,8 +4,7 @@ use Rattle.sqlite_trees.specs.View.{doubt}
 use Rattle.sqlite.specs.{Order.Row, Tree.Trees, declared.error.Error.Error, Clock.timed, Effect.Database, Effect.IsDatabase, Given.IsPlain, Given.Returns, Given.HasGiven, Given.HasBegun, Listing.understood, Steps.FailsToCommit, Held.Held, Held.state}
 use Rattle.sqlite.specs.State.{State, HasCleanDisk, Survives, CommitsShowing, IsUnchanged, IsRolledBack, Shown, ShowsRows, FailsToQuery, FailsToShow, IsNotRun, ExecutesInside, IsTooLate, Begins, Fails}
 use Rattle.sqlite_schema.specs.declared.command.Returning.{Returning}
-use Rattle.sqlite_trees.specs.declared.store.Store as store
-use Rattle.office_tables_statements.specs.Schema.{office_schema}
+use Rattle.office_tables_statements.specs.{Schema.office_schema, Tables.IsListText, Tables.row_shown, Tables.stored_for}
 use Rattle.office_tables_statements.specs.Calls.{AreOrdered, IsHonest, IsOffice, IsReady, IsStatement, Keeps, Reads, Ran, StandsOn, command_of}
 use Rattle.sqlite.proofs.Callers.{reads_as, runs_as, survives_begin, begins_shown, EndsIn}
 use Rattle.sqlite.proofs.StateLemmas.{survives_then, survives_weaker}
@@ -15,7 +14,7 @@ use Rattle.std.proofs.lemmas.List.{map-append}
 use Rattle.sqlite_rules.specs.Lists.{Has}
 use Rattle.sqlite_rules.proofs.ListLemmas.{has_left, has_right}
 use Rattle.office_tables_shelf.specs.{declared.rows.Table.Table, Cells.Cell}
-use Rattle.office_tables_statements.specs.Tables.{IsListText, row_shown, stored_for}
+use Rattle.sqlite_trees.specs.declared.store.Store as store
 
 abbrev pub IsUndisturbed : State → State → Type 0
 IsUndisturbed old new = IsUnchanged old new ⊎ IsRolledBack old new
@@ -44,14 +43,10 @@ shown_unchanged : (sql : List ℕ) (params : Row) (old new : State) (rows : List
 unfolding Shown
 shown_unchanged sql params old new rows plain h = (subst (ShowsRows old new sql h.0 (timed params h.0.formats h.1.now) rows) (subst IsPlain h.1.is plain).0 h.2).3
 
-unprepared : (sql : List ℕ) (params : Row) (old new : State) (e : Error) → IsNotRun old new sql params e → IsUndisturbed old new
-unfolding IsNotRun
-unprepared sql params old new e (inl none) = inl none.1
-unprepared sql params old new e (inr failed) = inr failed.3
-
 pub fails_undisturbed : (sql : List ℕ) (params : Row) (old new : State) (e : Error) → FailsToQuery sql params old new e → IsUndisturbed old new
-unfolding FailsToQuery
-fails_undisturbed sql params old new e (inl unrun) = unprepared sql params old new e unrun
+unfolding FailsToQuery IsNotRun
+fails_undisturbed sql params old new e (inl (inl none)) = inl none.1
+fails_undisturbed sql params old new e (inl (inr failed)) = inr failed.3
 fails_undisturbed sql params old new e (inr h) = go h.0.returning h.2
   where
     go : (returning : Option Returning) → FailsToShow old new sql h.0 (timed params h.0.formats h.1.now) e returning → IsUndisturbed old new
@@ -62,21 +57,26 @@ fails_undisturbed sql params old new e (inr h) = go h.0.returning h.2
 pub survives_on : (a b c : State) → Survives a b (λ _. ⊥) → Survives b c (λ _. ⊥) → Survives a c (λ _. ⊥)
 survives_on a b c p q = survives_then a b c (λ _. ⊥) (λ _. ⊥) (λ _. ⊥) (λ _ _ none. none) (λ _ _ none. none) p q
 
+-- the office where the tables are as they were, and all is committed
+office_as : (old new : State) → IsOffice old → new.in_transaction ≡ false → (IsHonest new → IsHonest old) → (IsHonest new → (new.now ≡ old.now) × (new.now ≡ new.committed)) → IsOffice new
+office_as old new office mode honest same = record {
+  autocommit = mode;
+  schema = λ h. ap (λ (d : Database). d.schema) (same h).0 ∙ office.schema (honest h);
+  settled = λ h. (same h).1;
+  ordered = λ h. subst (λ (d : Database). AreOrdered d.trees) (sym (same h).0) (office.ordered (honest h));
+  sound = λ h. subst IsDatabase (sym (same h).0) (office.sound (honest h));
+}
+
 keeps : (old new : State) → IsOffice old → Survives old new (λ _. ⊥) → new.in_transaction ≡ false
     → (IsHonest new → IsTrue old.is_open) → (IsHonest new → old.now.schema ≡ office_schema → IsUndisturbed old new) → Keeps old new
 keeps old new office crash mode opened undisturbed =
     let honest : IsHonest new → IsHonest old = λ h. (omega (arith, h.0, crash.clean), opened h) in
-    let now : (h : IsHonest new) → (new.now ≡ old.now) × (new.committed ≡ old.now) = λ h. go h (office.settled (honest h)) (undisturbed h (office.schema (honest h))) in
-    record {
-      office = record { autocommit = mode; schema = λ h. ap (λ (d : Database). d.schema) (now h).0 ∙ office.schema (honest h); settled = λ h. (now h).0 ∙ sym (now h).1; ordered = λ h. subst (λ (d : Database). AreOrdered d.trees) (sym (now h).0) (office.ordered (honest h)); sound = λ h. subst IsDatabase (sym (now h).0) (office.sound (honest h)) };
-      honest = honest;
-      same = λ h. (now h).0;
-      crash = crash;
-    }
+    let same : (h : IsHonest new) → (new.now ≡ old.now) × (new.now ≡ new.committed) = λ h. go h (office.settled (honest h)) (undisturbed h (office.schema (honest h))) in
+    record { office = office_as old new office mode honest same; honest = honest; same = λ h. (same h).0; crash = crash }
   where
-    go : IsHonest new → old.now ≡ old.committed → IsUndisturbed old new → (new.now ≡ old.now) × (new.committed ≡ old.now)
-    go h settled (inl same) = (same.0.now_is, same.0.committed_is ∙ sym settled)
-    go h settled (inr undone) = ((undone.undone h.1).0 ∙ sym settled, (undone.undone h.1).1 ∙ sym settled)
+    go : IsHonest new → old.now ≡ old.committed → IsUndisturbed old new → (new.now ≡ old.now) × (new.now ≡ new.committed)
+    go h settled (inl same) = (same.0.now_is, same.0.now_is ∙ settled ∙ sym same.0.committed_is)
+    go h settled (inr undone) = let it = undone.undone h.1 in (it.0 ∙ sym settled, it.0 ∙ sym it.1)
 
 keeps_then : (a b c : State) → Keeps a b → Keeps b c → Keeps a c
 keeps_then a b c one two = record { office = two.office; honest = λ h. one.honest (two.honest h); same = λ h. two.same h ∙ one.same (two.honest h); crash = survives_on a b c one.crash two.crash }
@@ -182,17 +182,9 @@ module _ (old mid new : State) (office : IsOffice old) (stands : StandsOn old mi
     | inr same ↦ absurd (true≢false (sym (inside (back honest).0 (stands.honest (back honest))) ∙ same.0))
   ]
 
-  as_before : IsHonest new → new.now ≡ old.now
-  as_before honest = (undone honest).0 ∙ stands.committed (back honest) ∙ sym (office.settled (stands.honest (back honest)))
-
   undone_office : new.in_transaction ≡ false → IsOffice new
-  undone_office mode = record {
-    autocommit = mode;
-    schema = λ honest. ap (λ (d : Database). d.schema) (as_before honest) ∙ office.schema (stands.honest (back honest));
-    settled = λ honest. (undone honest).0 ∙ sym (undone honest).1;
-    ordered = λ honest. subst (λ (d : Database). AreOrdered d.trees) (sym (as_before honest)) (office.ordered (stands.honest (back honest)));
-    sound = λ honest. subst IsDatabase (sym (as_before honest)) (office.sound (stands.honest (back honest)));
-  }
+  undone_office mode = office_as old new office mode (λ h. stands.honest (back h)) (λ h.
+      let it = undone h in (it.0 ∙ stands.committed (back h) ∙ sym (office.settled (stands.honest (back h))), it.0 ∙ sym it.1))
 
 failed_commit : (mid new : State) (e : Error) → FailsToCommit mid new e → IsRolledBack mid new ⊎ ((mid.in_transaction ≡ false) × IsUnchanged mid new)
 failed_commit mid new e (inl failed) = inl failed.3

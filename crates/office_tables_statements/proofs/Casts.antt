@@ -1,12 +1,11 @@
 -- Numbers and texts stay as they are in columns of their kinds.
 use Rattle.std.proofs.Common.{Bool, false, cond, ℤ, ◌≡◌, true, List, [], ◌∷◌, refl, sym, true≢false}
 use Rattle.std.proofs.lemmas.Bool.{and_parts}
-use Rattle.sqlite.specs.declared.types.Value.{Value, TheVariants.Null, TheVariants.Int}
-use Rattle.sqlite.specs.{Ops.unary, Cast.cast, Cast.cast_all, Kind.Kind}
-use Rattle.sqlite.specs.Kind.TheVariants as kind
+use Rattle.sqlite.specs.{declared.types.Value.Value, declared.types.Value.TheVariants.Null, declared.types.Value.TheVariants.Int, Ops.unary, Cast.cast, Cast.cast_all, Kind.Kind}
 use Rattle.sqlite_schema.specs.declared.schema.Column.{Column}
 use Rattle.office_tables_shelf.specs.Cells.{Cell, null, number, text}
 use Rattle.office_tables_statements.specs.Tables.{value_of, values_of, suits_kind, suit}
+use Rattle.sqlite.specs.Kind.TheVariants as kind
 
 either : (b : Bool) (x : Value) → cond b x x ≡ x
 either true x = refl

@@ -2,14 +2,13 @@
 use Rattle.std.proofs.Common.{◌≡◌, ℕ, suc, ◌+◌, ℤ, true, List, [], ◌∷◌, ◌++◌, map, length, get_or, Option, Ok, refl, sym, ap, subst₂, ◌∙◌, true≢false, arith}
 use Rattle.std.proofs.lemmas.Bool.{and_parts}
 use Rattle.sqlite.specs.{declared.types.Value.TheVariants.Int, Edit.with_rowid, Effect.Database, Kind.Kind, Order.Row, Rowids.TheVariants.Chosen, Rows.Sourced, Rows.stamped, Term.eval_all}
-use Rattle.sqlite.specs.Kind.TheVariants as kind
 use Rattle.sqlite_schema.specs.declared.schema.Column.{Column}
 use Rattle.office_tables_shelf.specs.Cells.{Cell, null, number, text, odd}
 use Rattle.office_tables_shelf.specs.declared.rows.Table.{Table}
-use Rattle.office_tables_shelf.specs.declared.rows.Table.TheVariants as table
-use Rattle.office_tables_statements.specs.Layout.{places_from}
-use Rattle.office_tables_statements.specs.Stored.{cell_of, cells, cells_at}
+use Rattle.office_tables_statements.specs.{Layout.places_from, Stored.cell_of, Stored.cells, Stored.cells_at}
 use Rattle.office_tables_statements.specs.Tables.{IsKeyOf, are_as_many, beside_rowid, id_given, key_given, layout_at, others_given, schema_at, source_at, suit, suits_kind, takes, value_of, values_of}
+use Rattle.sqlite.specs.Kind.TheVariants as kind
+use Rattle.office_tables_shelf.specs.declared.rows.Table.TheVariants as table
 
 -- the values that are stored beside the rowid of a row with these cells
 abbrev pub stored_beside : Table → List Cell → List Cell → Row

@@ -7,13 +7,11 @@ mod Returning
 pub mod CallLemmas
 pub mod WriteLemmas
 pub mod ContentLemmas
-pub mod RemoveLemmas
 pub mod BodyReading
 pub mod KeyReading
 pub mod ListedLemmas
 pub mod TableLemmas
 pub mod Casts
 mod Fits
-mod UpdateLemmas
 pub mod StoredLists
 pub mod StoredPuts

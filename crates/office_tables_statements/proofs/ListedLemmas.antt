@@ -1,10 +1,8 @@
 -- Rows of which no two have the same key, and a query with ORDER BY over the whole key: it shows the rows of a table as its map has them.
 use Rattle.std.proofs.Common.{◌≡◌, inl, inr, ℕ, ◌+◌, ◌<◌, Bool, false, List, [], ◌∷◌, ◌++◌, map, filter, length, get_or, Ordering, refl, sym, ap, subst, subst₂, ◌∙◌, arith, ℤ, suc, true, not, ◌&&◌, cond, None, option_map, is_some, Less, Equal, true≢false}
 use Rattle.std.proofs.lemmas.Bool.{cases_Bool, false_from_ne_true, and_from, not-true}
-use Rattle.std.proofs.lemmas.List.{get_or_default, length-map, Sorted.IsPermutation-map}
-use Rattle.std.proofs.lemmas.Map.Keys.{IsDistinct-IsPermutation}
-use Rattle.std.specs.{Cmp.eq_by_cmp_equiv, List.IsDistinct, List.list_all, FinMap.entries, FinMap.get, FinMap.len, FinMap.entries_sorted, FinMap.get-entries, FinMap.len-entries, FinMap.len-empty, FinMap.len-insert, FinMap.Entries.where_key, List.Sorted.IsPermutation, List.Sorted.IsSorted, Ordering.is_lt, Ordering.eq_by_cmp}
-use Rattle.std.specs.FinMap.Entries.{is_sorted-where_key, find-where_key, same_entries}
+use Rattle.std.proofs.lemmas.{List.get_or_default, List.length-map, List.Sorted.IsPermutation-map, Map.Keys.IsDistinct-IsPermutation}
+use Rattle.std.specs.{Cmp.eq_by_cmp_equiv, List.IsDistinct, List.list_all, FinMap.entries, FinMap.get, FinMap.len, FinMap.entries_sorted, FinMap.get-entries, FinMap.len-entries, FinMap.len-empty, FinMap.len-insert, FinMap.Entries.where_key, List.Sorted.IsPermutation, List.Sorted.IsSorted, Ordering.is_lt, Ordering.eq_by_cmp, FinMap.Entries.is_sorted-where_key, FinMap.Entries.find-where_key, FinMap.Entries.same_entries}
 use Rattle.sqlite.specs.{Order.Row, Order.column, Order.row_cmp, Order.value_cmp, Ops.binary, Query.inner, Query.end, Query.IsAnswer, Query.output, Query.Output, Query.matches, Term.Term, Term.holds, Tree.Trees, Tree.rowid, Tree.IsTable, Schema.Schema, declared.types.Value.TheVariants.Int, Table.Table, View.IsShaped}
 use Rattle.sqlite_sql.specs.Query.{output_cmp}
 use Rattle.sqlite_rules.specs.Lists.{Has}
@@ -13,27 +11,21 @@ use Rattle.sqlite_rules.proofs.{ProbeLemmas.has_mapped, RuleLemmas.keeps_at, Tab
 use Rattle.sqlite_trees.proofs.ListLemmas.{all-filter, all-map, all_from_map, map-map}
 use Rattle.office_tables_shelf.specs.Cells.{Cell, cells_cmp, rows_by}
 use Rattle.office_tables_shelf.proofs.CellLemmas.{cells_total, cells_exact, is_under, find_entry, get_by}
-use Rattle.office_tables_shelf.proofs.ListLemmas.{entry, listed, strictly, IsIn, entries_filter, no_find}
+use Rattle.office_tables_shelf.proofs.ListLemmas.{entry, listed, strictly, IsIn, entries_filter}
 use Rattle.office_tables_statements.specs.{Layout.Layout, Layout.values_at, Tables.listed_by, Stored.cells_at, Stored.rows_in}
-use Rattle.office_tables_statements.proofs.StoredLemmas.{HaveKeys, same_order, agree_ties}
-use Rattle.office_tables_statements.proofs.{QueryLemmas.matched, RemoveLemmas.permuted}
-use Rattle.std.specs.FinMap as finite
-use Rattle.sqlite_trees.specs.declared.store.Shape.TheVariants as shape
+use Rattle.office_tables_statements.proofs.{StoredLemmas.HaveKeys, StoredLemmas.same_order, StoredLemmas.agree_ties, QueryLemmas.matched, ContentLemmas.permuted, ContentLemmas.find_none}
 use Rattle.sqlite_schema.specs.declared.schema.{Index.Index, Constraint.TheVariants.Unique}
 use Rattle.sqlite_schema.specs.Rules.{agree, clashes, differ, guards, Obeys}
 use Rattle.sqlite_value.specs.Keys.{plain}
+use Rattle.std.specs.FinMap as finite
+use Rattle.sqlite_trees.specs.declared.store.Shape.TheVariants as shape
 
--- ---- what stands in a list, in SQL's word and in the shelf's
+-- what stands in a list, in the shelf's word
 
 pub is_in : {X : Type 0} (xs : List X) (x : X) → Has xs x → IsIn xs x
 is_in [] x none = none
 is_in (y ∷ xs) x (inl same) = inl same
 is_in (y ∷ xs) x (inr more) = inr (is_in xs x more)
-
-has_in : {X : Type 0} (xs : List X) (x : X) → IsIn xs x → Has xs x
-has_in [] x none = none
-has_in (y ∷ xs) x (inl same) = inl same
-has_in (y ∷ xs) x (inr more) = inr (has_in xs x more)
 
 -- ---- how many rows have keys that pass a test
 
@@ -58,8 +50,7 @@ module _ {X : Type 0} (key columns : X → List Cell) where
   all_counted (x ∷ xs) h =
       let rows = rows_by key columns xs in
       let apart = all_from_map (λ k. eq_by_cmp cells_cmp (key x) k ≡ false) key xs h.0 in
-      let unmet = no_find (is_under key columns (key x)) xs (λ y there.
-      all_has (λ y. is_under key columns (key x) y ≡ false) xs y apart (has_in xs y there)) in
+      let unmet = find_none (is_under key columns (key x)) xs (λ y there. all_has _ xs y apart there) in
       let none : get rows (key x) ≡ None = get_by key columns xs (key x) ∙ ap (option_map columns) unmet in
       len-insert cells_total rows (key x) (columns x) ∙ ap (λ o. cond (is_some o) (len rows) (len rows + 1)) none ∙ ap (λ n. n + 1) (all_counted xs h.1) ∙ (let one : length xs + 1 ≡ suc (length xs) = omega arith in one)
 
@@ -155,16 +146,16 @@ module _ (t : Layout) (filters : List Term) (key columns : Row → List Cell) (i
   keys_seen [] = refl
   keys_seen (r ∷ rows) = λ i. is.keys r i ∷ keys_seen rows i
 
-  module _ (db : Trees) (sound : HaveKeys t (db t.tree)) (distinct : IsDistinct (eq_by_cmp cells_cmp) (map (cells_at t.keys) (db t.tree))) (passes : Passes (db t.tree)) where
+  module _ (db : Trees) (rows : List Row) (low : db t.tree ≡ rows) (sound : HaveKeys t rows) (distinct : IsDistinct (eq_by_cmp cells_cmp) (map (cells_at t.keys) rows)) (passes : Passes rows) where
     abbrev kept : List Row
-    kept = filter (λ row. test (cells_at t.keys row)) (db t.tree)
+    kept = filter (λ row. test (cells_at t.keys row)) rows
 
-    seen : (ordered : List Output) → IsPermutation (map (sight t) kept) ordered → (o : Output) → Has ordered o → (r : Row) × Has (db t.tree) r × (o ≡ sight t r)
+    seen : (ordered : List Output) → IsPermutation (map (sight t) kept) ordered → (o : Output) → Has ordered o → (r : Row) × Has rows r × (o ≡ sight t r)
     seen ordered same o there =
         let back = has_mapped (sight t) kept o (permuted _ ordered same o there) in
-        (back.0, (has_filtered (λ row. test (cells_at t.keys row)) (db t.tree) back.0 back.1).0, back.2)
+        (back.0, (has_filtered (λ row. test (cells_at t.keys row)) rows back.0 back.1).0, back.2)
 
-    alike : (r x : Row) → Has (db t.tree) r → Has (db t.tree) x → output_cmp (listed_by t filters) (sight t r) (sight t x) ≡ cells_cmp (key (sight t r).1) (key (sight t x).1)
+    alike : (r x : Row) → Has rows r → Has rows x → output_cmp (listed_by t filters) (sight t r) (sight t x) ≡ cells_cmp (key (sight t r).1) (key (sight t x).1)
     alike r x here there = is.orders r x ∙ same_order t.keys t.keys r x (sound r here) (sound x there) ∙ sym (λ i. cells_cmp (is.keys r i) (is.keys x i))
 
     in_order : (ordered : List Output) → IsPermutation (map (sight t) kept) ordered → IsSorted (output_cmp (listed_by t filters)) ordered → IsSorted (λ (a b : Output). cells_cmp (key a.1) (key b.1)) ordered
@@ -177,18 +168,20 @@ module _ (t : Layout) (filters : List Term) (key columns : Row → List Cell) (i
     apart ordered same =
         IsDistinct-IsPermutation (eq_by_cmp cells_cmp) (eq_by_cmp_equiv cells_total).symm (map (λ (o : Output). key o.1) (map (sight t) kept)) (map (λ (o : Output). key o.1) ordered)
         (IsPermutation-map (λ (o : Output). key o.1) (map (sight t) kept) ordered same)
-        (subst (IsDistinct (eq_by_cmp cells_cmp)) (sym (keys_seen kept)) (distinct_kept (eq_by_cmp cells_cmp) (cells_at t.keys) (λ row. test (cells_at t.keys row)) (db t.tree) distinct))
+        (subst (IsDistinct (eq_by_cmp cells_cmp)) (sym (keys_seen kept)) (distinct_kept (eq_by_cmp cells_cmp) (cells_at t.keys) (λ row. test (cells_at t.keys row)) rows distinct))
 
     the_same : (shown : List Row) (a : IsAnswer (listed_by t filters) db params shown) → IsPermutation (map (sight t) kept) a.ordered
-    the_same shown a = subst (λ os. IsPermutation os a.ordered) (a.distinct ∙ ap (map (output (listed_by t filters))) a.grouped ∙ found_rows (db t.tree) passes) a.same
+    the_same shown a =
+        subst (λ all. IsPermutation (map (sight t) (filter (λ row. test (cells_at t.keys row)) all)) a.ordered) low
+        (subst (λ os. IsPermutation os a.ordered) (a.distinct ∙ ap (map (output (listed_by t filters))) a.grouped ∙ found_rows (db t.tree) (subst Passes (sym low) passes)) a.same)
 
     -- what is shown are the map's entries whose keys pass the test
-    pub listing : (shown : List Row) → IsAnswer (listed_by t filters) db params shown → map (entry key columns) shown ≡ where_key cells_cmp test (entries (rows_in t (db t.tree)))
+    pub listing : (shown : List Row) → IsAnswer (listed_by t filters) db params shown → map (entry key columns) shown ≡ where_key cells_cmp test (entries (rows_in t rows))
     listing shown a =
         let same = the_same shown a in
         let rising = strictly (λ (o : Output). key o.1) (λ (o : Output). columns o.1) a.ordered (in_order a.ordered same a.sorted) (apart a.ordered same) in
         ap (map (entry key columns)) a.shown ∙ map-map (entry key columns) (λ (o : Output). o.1) a.ordered
-        ∙ listed (cells_at t.keys) (cells_at t.columns) (sight t) (λ (o : Output). key o.1) (λ (o : Output). columns o.1) is.keys is.others test (db t.tree) a.ordered same rising
+        ∙ listed (cells_at t.keys) (cells_at t.columns) (sight t) (λ (o : Output). key o.1) (λ (o : Output). columns o.1) is.keys is.others test rows a.ordered same rising
 
     -- each row shows all columns
     pub shown_width : (shown : List Row) → IsAnswer (listed_by t filters) db params shown → (row : Row) → Has shown row → length row ≡ length (t.keys ++ t.columns)

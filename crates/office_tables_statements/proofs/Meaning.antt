@@ -1,9 +1,7 @@
 -- A text that is a command over the office's tables is compiled as this command, is plain, and is no query of the listing.
 use Rattle.std.proofs.Common.{◌≡◌, ℕ, List, [], false, if◌then◌else◌, Option, None, Some, Result, Ok, Err, refl, sym, ap, subst, ◌∙◌}
 use Rattle.sqlite_schema.specs.declared.command.Returning.{Returning}
-use Rattle.sqlite_resolve.specs.Compile.{compiled}
-use Rattle.sqlite_resolve.specs.declared.compiled.Compiled.{Compiled}
-use Rattle.sqlite_resolve.specs.declared.error.CompileError.{CompileError}
+use Rattle.sqlite_resolve.specs.{Compile.compiled, declared.compiled.Compiled.Compiled, declared.error.CompileError.CompileError}
 use Rattle.sqlite.specs.{Command.Command, Given.IsPlain, Listing.understood, Listing.reads_listing, Listing.misses_table, Listing.if_select, Listing.listing_schema}
 use Rattle.office_tables_statements.specs.Calls.{Means, bare, bare_command, command_of}
 use Rattle.office_tables_statements.specs.Schema.{office_schema}

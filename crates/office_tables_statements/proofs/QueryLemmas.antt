@@ -2,8 +2,7 @@
 use Rattle.std.proofs.Common.{◌≡◌, ℕ, List, [], ◌∷◌, map, filter, find, slice_get, Bool, ◌&&◌, inl, inr, Option, None, Some, option_map, refl, sym, ap, subst₂, ◌∙◌, arith, length, IfSome, subst}
 use Rattle.std.specs.{Option.option_to_list, List.Sorted.IsPermutation, List.list_all}
 use Rattle.sqlite.proofs.Callers.{one_permutation}
-use Rattle.std.proofs.lemmas.{Bool.cases_Bool, List.length-map}
-use Rattle.std.proofs.lemmas.List.Sorted.{IsPermutation-map, length_permutation}
+use Rattle.std.proofs.lemmas.{Bool.cases_Bool, List.length-map, List.Sorted.IsPermutation-map, List.Sorted.length_permutation}
 use Rattle.sqlite.specs.{Order.Row, Order.column, Tree.Trees, Collation.TheVariants.Binary, Term.Term, Term.Env, Term.col, Term.op2, Term.holds, Term.eval_all, Query.inner, Query.end, Query.IsAnswer, Query.output, Query.Output, Query.matches, declared.types.Value.TheVariants.Null, Command.TheVariants.Select, Effect.Database, View.IsShaped, Program.overlay}
 use Rattle.sqlite_sql.specs.declared.ops.{BinaryOp.TheVariants.Compare, CompareOp.TheVariants.Eq}
 use Rattle.sqlite_schema.specs.Rules.{agree}
@@ -11,9 +10,9 @@ use Rattle.sqlite_value.specs.Keys.{plain, first_key}
 use Rattle.sqlite_rules.specs.Lists.{Has}
 use Rattle.sqlite_trees.proofs.ListLemmas.{map-map}
 use Rattle.office_tables_statements.specs.{Layout.Layout, Layout.values_at, Layout.has_key, Tables.of_key, Tables.found_by, Tables.picked_by, Tables.picked_where, Calls.Means, Calls.Reads}
+use Rattle.office_tables_statements.proofs.Meaning.{is_command}
 use Rattle.sqlite.specs.Effect as effect
 use Rattle.sqlite_trees.specs.declared.store.Shape.TheVariants as shape
-use Rattle.office_tables_statements.proofs.Meaning.{is_command}
 
 -- the columns at these places
 abbrev pub cols : List ℕ → List Term

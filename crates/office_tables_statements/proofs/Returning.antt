@@ -1,21 +1,14 @@
 -- A text that has no RETURNING over one schema has none over any other, so a query of the office commits nothing.
-use Rattle.std.proofs.Common.{◌≡◌, ◌≢◌, ◌==◌, ℕ, inl, inr, List, [], length, true, Option, Some, None, Result, Ok, Err, refl, sym, ap, subst, ◌∙◌}
+use Rattle.std.proofs.Common.{◌≡◌, ◌==◌, true≢false, Bool, false, is_none, ℕ, inl, inr, List, [], length, true, Option, Some, None, Result, Ok, Err, refl, sym, ap, subst, ◌∙◌}
 use Rattle.std.proofs.lemmas.Bool.{cases_Bool}
-use Rattle.sqlite_ast.specs.declared.Shown.{Shown}
-use Rattle.sqlite_ast.specs.declared.Statement.{Statement}
-use Rattle.sqlite_ast.specs.declared.Statement.TheVariants as written
+use Rattle.sqlite_ast.specs.declared.{Shown.Shown, Statement.Statement}
 use Rattle.sqlite_syntax.specs.declared.statement.Parsed.{Parsed}
-use Rattle.sqlite_schema.specs.declared.command.Command.{Command}
-use Rattle.sqlite_schema.specs.declared.command.Returning.{Returning}
-use Rattle.sqlite_schema.specs.declared.schema.Schema.{Schema}
-use Rattle.sqlite_resolve.specs.declared.compiled.Compiled.{Compiled}
-use Rattle.sqlite_resolve.specs.Body.{table_at}
-use Rattle.sqlite_resolve.specs.Given.{returned}
+use Rattle.sqlite_schema.specs.declared.{command.Command.Command, command.Returning.Returning, schema.Schema.Schema}
+use Rattle.sqlite_resolve.specs.{declared.compiled.Compiled.Compiled, Body.table_at, Given.returned, Lowering.Checked, Lowering.and_then, Scope.Name}
 use Rattle.sqlite_resolve.specs.Compile.{target, source_of, compiled, first, planned, meaning, command, returning, shows, with_command}
-use Rattle.sqlite_resolve.specs.Lowering.{Checked, and_then}
-use Rattle.sqlite_resolve.specs.Scope.{Name}
 use Rattle.sqlite.specs.Given.{IsPlain, Returns}
 use Rattle.sqlite.specs.Listing.{understood, reads_listing, if_select, is_select, listing_schema}
+use Rattle.sqlite_ast.specs.declared.Statement.TheVariants as written
 
 -- what a statement shows of the rows that it writes
 abbrev shown_by : Statement → List Shown
@@ -24,33 +17,29 @@ shown_by (written.Update name sets test shown) = shown
 shown_by (written.Delete name test shown) = shown
 shown_by _ = []
 
-never_none : {A B : Type 0} (r : Checked A) (f : A → Checked (Option B)) → ((a : A) → f a ≢ Ok None) → and_then r f ≢ Ok None
-never_none (Ok a) f never is = never a is
-never_none (Err e) f never is = absurd cc
+always : {A B : Type 0} (Q : B → Type 0) (r : Checked A) (f : A → Checked B) → ((a : A) (b : B) → f a ≡ Ok b → Q b) → (b : B) → and_then r f ≡ Ok b → Q b
+always Q (Ok a) f each b is = each a b is
+always Q (Err e) f each b is = absurd cc
 
-ok_some : {B : Type 0} (b : B) (r : Checked (Option B)) → r ≡ Ok (Some b) → r ≢ Ok None
-ok_some b r is none = absurd (let e = sym is ∙ none in cc)
+abbrev shows_nothing : Checked (Option Returning) → Bool
+shows_nothing (Ok r) = is_none r
+shows_nothing (Err e) = false
 
-shows_none : (schema : Schema) (base : ℕ) (name : Name) (shown : List Shown) → shows schema base name shown ≡ Ok None → (length shown == 0) ≡ true
+shows_some : (schema : Schema) (base : ℕ) (name : Name) (shown : List Shown) (r : Option Returning) → shows schema base name shown ≡ Ok r → is_none r ≡ (length shown == 0)
 unfolding shows
-shows_none schema base name shown is = elim (cases_Bool (length shown == 0)) [
-  | inl none ↦ none
-  | inr some ↦ absurd (never_none (target schema name) _ (λ at. never_none (table_at schema at) _ (λ table. never_none (returned schema table base shown) _ (λ r. never_none (source_of schema (length r.0) r.1) _ (λ s. ok_some _ _ refl)))) (rw some at is))
+shows_some schema base name shown r is = elim (cases_Bool (length shown == 0)) [
+  | inl none ↦ sym (ap shows_nothing (rw none at is)) ∙ sym none
+  | inr some ↦
+      let Q = λ (o : Option Returning). is_none o ≡ false in
+      always Q (target schema name) _ (λ at. always Q (table_at schema at) _ (λ table. always Q (returned schema table base shown) _ (λ x. always Q (source_of schema (length x.0) x.1) _ (λ s o is. sym (ap shows_nothing is))))) r (rw some at is) ∙ sym some
 ]
 
-none_shown : (schema : Schema) (base : ℕ) (it : Statement) → returning schema base it ≡ Ok None → (length (shown_by it) == 0) ≡ true
+shown_is : (schema : Schema) (base : ℕ) (it : Statement) (r : Option Returning) → returning schema base it ≡ Ok r → is_none r ≡ (length (shown_by it) == 0)
 unfolding returning
-none_shown schema base (written.Insert how name columns rows clauses shown) is = shows_none schema base name shown is
-none_shown schema base (written.Update name sets test shown) is = shows_none schema base name shown is
-none_shown schema base (written.Delete name test shown) is = shows_none schema base name shown is
-none_shown schema base _ is = refl
-
-returns_none : (schema : Schema) (base : ℕ) (it : Statement) → (length (shown_by it) == 0) ≡ true → returning schema base it ≡ Ok None
-unfolding returning shows
-returns_none schema base (written.Insert how name columns rows clauses shown) none = rw none refl
-returns_none schema base (written.Update name sets test shown) none = rw none refl
-returns_none schema base (written.Delete name test shown) none = rw none refl
-returns_none schema base _ none = refl
+shown_is schema base (written.Insert how name columns rows clauses shown) r is = shows_some schema base name shown r is
+shown_is schema base (written.Update name sets test shown) r is = shows_some schema base name shown r is
+shown_is schema base (written.Delete name test shown) r is = shows_some schema base name shown r is
+shown_is schema base _ r is = sym (ap shows_nothing is)
 
 abbrev returning_in : Checked Compiled → Checked (Option Returning)
 returning_in (Ok c) = Ok c.returning
@@ -73,15 +62,17 @@ compiled_shows schema sql c = go (first sql) refl
     go (Ok p) parsed is = (p, _, parsed, returned_by p _ _ _ c is)
     go (Err e) parsed is = absurd cc
 
+none_is : {X : Type 0} (o : Option X) → is_none o ≡ true → o ≡ None
+none_is None h = refl
+none_is (Some x) h = absurd (true≢false (sym h))
+
 compiled_none : (one other : Schema) (sql : List ℕ) (c d : Compiled) → compiled one sql ≡ Ok c → c.returning ≡ None → compiled other sql ≡ Ok d → d.returning ≡ None
 compiled_none one other sql c d is none also =
     let first = compiled_shows one sql c is in
     let second = compiled_shows other sql d also in
-    let same : first.0 ≡ second.0 = cc in
-    let shown : (length (shown_by first.0.statement) == 0) ≡ true = none_shown one first.1 first.0.statement (first.3 ∙ ap (λ r. Ok r) none) in
-    let bare = returns_none other second.1 second.0.statement (subst (λ p. (length (shown_by p.statement) == 0) ≡ true) same shown) in
-    let both : Ok d.returning ≡ Ok None = sym second.3 ∙ bare in
-    cc
+    let same : second.0 ≡ first.0 = cc in
+    none_is d.returning (shown_is other second.1 second.0.statement _ second.3 ∙ ap (λ p. length (shown_by p.statement) == 0) same
+    ∙ sym (shown_is one first.1 first.0.statement _ first.3) ∙ ap is_none none)
 
 listed_as : (r : Result Compiled _) (c : Compiled) → if_select r ≡ Ok c → r ≡ Ok c
 listed_as (Ok d) c is = elim (cases_Bool (is_select d.command)) [

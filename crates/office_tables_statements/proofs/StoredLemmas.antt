@@ -2,9 +2,7 @@
 use Rattle.std.proofs.Common.{◌≡◌, ℕ, Bool, true, false, List, [], ◌∷◌, find, cond, Option, None, Some, option_map, int_cmp, refl, sym, ap, subst, ◌∙◌, true≢false, inl, inr}
 use Rattle.std.proofs.lemmas.Bool.{and_parts, and_from}
 use Rattle.std.specs.{Cmp.both_tied, Cmp.eq_by_cmp_equiv, FinMap.get, Ordering.is_eq, Ordering.ordering_then}
-use Rattle.sqlite.specs.{Collation.TheVariants.Binary, declared.types.Value.Value, Tree.rowid, declared.types.Value.TheVariants.Int, declared.types.Value.TheVariants.Text, Order.Row, Order.column, Order.value_cmp, Order.row_cmp, View.IsShaped}
-use Rattle.sqlite.specs.Ops.{binary, is_true, from_truth}
-use Rattle.sqlite_trees.specs.declared.store.Shape.TheVariants as shape
+use Rattle.sqlite.specs.{Collation.TheVariants.Binary, declared.types.Value.Value, Tree.rowid, declared.types.Value.TheVariants.Int, declared.types.Value.TheVariants.Text, Order.Row, Order.column, Order.value_cmp, Order.row_cmp, View.IsShaped, Ops.binary, Ops.is_true, Ops.from_truth}
 use Rattle.sqlite_rules.proofs.{ListLemmas.all_has, TableLemmas.int_is}
 use Rattle.sqlite_schema.specs.Rules.{agree, equal}
 use Rattle.sqlite_value.specs.Keys.{plain, first_key}
@@ -12,8 +10,9 @@ use Rattle.sqlite_value.proofs.OrderLemmas.{value_cmp-Int, value_cmp-Text, value
 use Rattle.sqlite_rules.specs.Lists.{Has}
 use Rattle.office_tables_shelf.specs.Cells.{Cell, cell_cmp, cells_cmp}
 use Rattle.office_tables_shelf.proofs.CellLemmas.{cells_total, is_under, get_by}
-use Rattle.office_tables_statements.specs.Layout.{Layout, values_at, has_key, columns_in}
+use Rattle.office_tables_statements.specs.Layout.{Layout, values_at, has_key}
 use Rattle.office_tables_statements.specs.Stored.{cell_of, cells, cells_at, rows_in, is_sound, are_sound}
+use Rattle.sqlite_trees.specs.declared.store.Shape.TheVariants as shape
 
 -- ---- SQL's =
 
@@ -84,7 +83,7 @@ twice f g None = refl
 twice f g (Some x) = refl
 
 -- the map has, under the cells of a key, the cells of the row that SQL's = finds
-pub get_columns : (t : Layout) (rows : List Row) (key : Row) → HaveKeys t rows → are_sound t.places key ≡ true → get (rows_in t rows) (cells_at t.places key) ≡ option_map cells (columns_in t rows key)
+pub get_columns : (t : Layout) (rows : List Row) (key : Row) → HaveKeys t rows → are_sound t.places key ≡ true → get (rows_in t rows) (cells_at t.places key) ≡ option_map cells (option_map (values_at t.columns) (find (has_key t key) rows))
 get_columns t rows key sound given =
     get_rows t rows (cells_at t.places key)
     ∙ ap (option_map (cells_at t.columns)) (find_alike (has_cells t (cells_at t.places key)) (has_key t key) rows (λ r there. turned r (sound r there)))

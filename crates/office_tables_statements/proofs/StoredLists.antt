@@ -2,27 +2,26 @@
 use Rattle.std.proofs.Common.{◌≡◌, inl, inr, ℕ, false, List, [], ◌∷◌, map, length, refl, sym, subst, ap, ◌∙◌, find, Option, Some, None, IfSome, option_map, ◌<◌, ◌^◌, min, Bool, filter, pos, arith}
 use Rattle.std.specs.{FinMap.entries, FinMap.get, FinMap.Entries.where_key, Option.option_to_list, List.IsDistinct, List.AllByRecursion, List.list_all, List.AllZip, List.Sorted.IsPermutation, Ordering.is_eq, Ordering.eq_by_cmp}
 use Rattle.sqlite.specs.{declared.types.Value.TheVariants.Null, declared.types.Value.TheVariants.Int, Effect.Database, Effect.IsDatabase, Order.Row, Order.column, Program.overlay, Term.Term, Term.holds, Term.Env, Query.IsAnswer, Query.inner, Query.end, Query.matches, Query.output, Query.Output, View.IsShaped}
-use Rattle.sqlite.specs.Effect as effect
-use Rattle.sqlite_trees.specs.declared.store.Shape.TheVariants as shape
 use Rattle.sqlite_rules.proofs.ListLemmas.{all_from, all_has, has_found}
 use Rattle.sqlite_rules.specs.Lists.{Has}
 use Rattle.sqlite_schema.specs.Rules.{Obeys, clashes}
 use Rattle.sqlite_value.specs.Keys.{plain}
 use Rattle.office_tables_shelf.specs.{Cells.Cell, Cells.cells_cmp, Cells.number, Content.Content, Shelf.is_of, Shelf.rows_of, declared.rows.Table.Table}
-use Rattle.office_tables_statements.specs.{Calls.AreOrdered, Calls.Reads, Layout.values_at, Layout.has_key}
+use Rattle.office_tables_statements.specs.{Calls.AreOrdered, Calls.Reads, Layout.values_at, Layout.has_key, Schema.office_schema}
 use Rattle.office_tables_statements.specs.Stored.{cells_at, rows_in, content_of, cells, cell_of}
-use Rattle.office_tables_shelf.specs.declared.rows.Table.TheVariants as table
 use Rattle.office_tables_statements.specs.Tables.{names_of, rows_at, layout_at, schema_at, key_shown, columns_shown, row_shown, width_of, filter_of, of_first, params_of, is_among, rows_among, listed_by, IsListText, IsNoRow, HasDamagedRow, places_of, key_given, IsKeyOf, IsUnder, IsFindText, count_grouping, counted_by, IsCountText}
-use Rattle.office_tables_statements.specs.Schema.{office_schema}
 use Rattle.office_tables_statements.proofs.StoredLemmas.{HaveKeys, same_order, sound_rowids, agree_ties, get_columns}
 use Rattle.office_tables_statements.proofs.{Meaning.is_command, SoundLemmas.sound_keys, ListedLemmas.distinct_keys, ListedLemmas.distinct_rising, ListedLemmas.is_in}
 use Rattle.office_tables_statements.proofs.ListedLemmas.{unique_by, listing, shown_width, counted, distinct_kept}
-use Rattle.office_tables_statements.proofs.TableLemmas.{same_tree, is_listed, is_low, OwnKey, facts, passes, among, listing_of, rows_in_tree, in_tree}
+use Rattle.office_tables_statements.proofs.TableLemmas.{is_listed, is_low, OwnKey, facts, passes, among, listing_of, in_tree}
 use Rattle.office_tables_statements.proofs.QueryLemmas.{Passes, found_by_key, has_width, matched}
 use Rattle.office_tables_shelf.proofs.{ListLemmas.stands, CellLemmas.cells_exact, CellLemmas.tied}
 use Rattle.std.proofs.lemmas.List.{length-map, Sorted.length_permutation}
 use Rattle.sqlite.proofs.Callers.{one_permutation}
 use Rattle.sqlite_sql.specs.{Aggregate.count, Group.IsSummary, Group.value_over}
+use Rattle.sqlite.specs.Effect as effect
+use Rattle.sqlite_trees.specs.declared.store.Shape.TheVariants as shape
+use Rattle.office_tables_shelf.specs.declared.rows.Table.TheVariants as table
 
 -- ---- one group, and how many it has
 
@@ -50,7 +49,7 @@ small : (n many : ℕ) → n < 2 ^ 32 → min many 9223372036854775807 ≡ n →
 small n many low is = omega (arith, low, is)
 
 -- rising rowids are keys that differ
-rowids_distinct : (rows : List Row) → IsShaped shape.Table rows → IsDistinct (eq_by_cmp cells_cmp) (map (cells_at (0 ∷ [])) rows)
+pub rowids_distinct : (rows : List Row) → IsShaped shape.Table rows → IsDistinct (eq_by_cmp cells_cmp) (map (cells_at (0 ∷ [])) rows)
 rowids_distinct rows shaped =
     let sound = sound_rowids (layout_at table.Intersection) refl rows shaped in
     distinct_rising (0 ∷ []) rows shaped.0 (λ r x here there below.
@@ -88,7 +87,7 @@ module _ (t : Table) (db : Database) (is : db.schema ≡ office_schema) (sound :
 
   -- that tree, in a query
   pub seen : overlay db.trees [] (layout_at t).tree ≡ db.trees (schema_at t).tree
-  seen = is_low t db.trees ∙ ap db.trees (same_tree t)
+  seen = is_low t db.trees
 
   -- the query of a list
   module _ (whose : Option ℕ) (sql : List ℕ) (means : IsListText t whose sql) (shown : List Row)
@@ -99,33 +98,21 @@ module _ (t : Table) (db : Database) (is : db.schema ≡ office_schema) (sound :
         let got = subst (λ k. effect.Reads k db (params_of whose) shown) (is_command sql _ means) reads in
         got.answer Null
 
-    keys_there : HaveKeys (layout_at t) (overlay db.trees [] (layout_at t).tree)
-    keys_there = subst (HaveKeys (layout_at t)) (sym seen) own_keys
-
-    distinct_there : IsDistinct (eq_by_cmp cells_cmp)
-        (map (cells_at (layout_at t).keys) (overlay db.trees [] (layout_at t).tree))
-    distinct_there = subst (λ rows. IsDistinct (eq_by_cmp cells_cmp)
-        (map (cells_at (layout_at t).keys) rows)) (sym seen) distinct
-
     -- it shows its rows
     pub lists : map (row_shown t) shown ≡ rows_among whose (rows_at (content_of db.trees) t)
     lists =
-        let test = is_among whose in
         listing (layout_at t) (filter_of t whose) (key_shown t) (columns_shown t)
-        (listing_of (filter_of t whose) t) (params_of whose) test (overlay db.trees []) keys_there
-        distinct_there (λ row there. passes t whose row (keys_there row there)) shown answer
-        ∙ ap (λ rows. where_key cells_cmp test (entries (rows_in (layout_at t) rows)))
-        (is_low t db.trees)
-        ∙ ap (λ rows. where_key cells_cmp test (entries rows)) (sym (rows_in_tree t db.trees))
+        (listing_of (filter_of t whose) t) (params_of whose) (is_among whose) (overlay db.trees []) rows seen own_keys
+        distinct (λ row there. passes t whose row (own_keys row there)) shown answer
+        ∙ ap (λ rows. where_key cells_cmp (is_among whose) (entries rows)) (sym (in_tree t db.trees))
         ∙ among whose (rows_at (content_of db.trees) t)
 
     -- with all columns
     pub width : AllByRecursion (λ row. length row ≡ width_of t) shown
     width = all_from (λ (row : Row). length row ≡ width_of t) shown
         (shown_width (layout_at t) (filter_of t whose) (key_shown t) (columns_shown t)
-        (listing_of (filter_of t whose) t) (params_of whose) (is_among whose)
-        (overlay db.trees []) keys_there distinct_there
-        (λ row there. passes t whose row (keys_there row there)) shown answer)
+        (listing_of (filter_of t whose) t) (params_of whose) (is_among whose) (overlay db.trees []) rows seen own_keys
+        distinct (λ row there. passes t whose row (own_keys row there)) shown answer)
 
   -- ---- how many there are of an intersection
 

@@ -1,23 +1,20 @@
 -- What is known of each table by computation on the schema.
-use Rattle.std.proofs.Common.{◌≡◌, ◌≢◌, ◌⊎◌, inl, inr, ℕ, ◌+◌, ◌/◌, true, false, true≢false, cond, List, [], ◌∷◌, slice_get, unwrap_or, Option, None, Some, refl, sym, ap, subst, ◌∙◌, eq-eqb, pos}
+use Rattle.std.proofs.Common.{◌≡◌, ◌≢◌, ◌⊎◌, inl, inr, ℕ, ◌+◌, ◌/◌, true, false, true≢false, cond, List, [], ◌∷◌, drop, pred, slice_get, unwrap_or, Option, None, Some, refl, sym, ap, subst, ◌∙◌, eq-eqb, pos}
 use Rattle.std.proofs.lemmas.Bool.{cases_Bool, eqb-true, and_parts, and_from}
 use Rattle.std.specs.{FinMap.entries, FinMap.Entries.where_key, List.AllByRecursion, List.list_all, Cmp.eq_by_cmp_equiv, Ordering.is_eq}
 use Rattle.sqlite.specs.{Order.Row, Order.column, Term.Term, Term.holds, Tree.Trees, Program.overlay, declared.types.Value.TheVariants.Int}
 use Rattle.sqlite_rules.specs.Lists.{Has}
-use Rattle.sqlite_rules.proofs.ListLemmas.{all_has}
+use Rattle.sqlite_rules.proofs.ListLemmas.{all_has, has_got}
 use Rattle.sqlite_schema.specs.{Rules.guards, declared.schema.Index.Index}
 use Rattle.sqlite_value.specs.Keys.{plain, first_key}
-use Rattle.office_tables_shelf.specs.{Cells.TableRows, Cells.number, Cells.cell_cmp, Cells.cells_cmp, Shelf.is_of, Content.Content, Content.is_same_table}
-use Rattle.office_tables_shelf.specs.declared.rows.Table.{Table}
-use Rattle.office_tables_shelf.specs.declared.rows.Table.TheVariants as table
-use Rattle.office_tables_statements.specs.Schema.{office_schema}
-use Rattle.office_tables_statements.specs.Layout.{office_version}
+use Rattle.office_tables_shelf.specs.{Cells.TableRows, Cells.number, Cells.cell_cmp, Cells.cells_cmp, Shelf.is_of, Content.Content, Content.is_same_table, declared.rows.Table.Table}
+use Rattle.office_tables_statements.specs.{Schema.office_schema, Layout.office_version}
 use Rattle.office_tables_statements.specs.Stored.{cells_at, rows_in, content_of, are_sound, cell_of}
 use Rattle.office_tables_statements.specs.Tables.{rows_at, with_rows, layout_at, schema_at, place_at, key_shown, columns_shown, filter_of, of_first, params_of, rows_among, is_among, of_key}
-use Rattle.office_tables_statements.proofs.{ListedLemmas.IsListing, QueryLemmas.ArePaired, SoundLemmas.has_key_at, WriteLemmas.IsIdle}
-use Rattle.office_tables_statements.proofs.StoredLemmas.{agree_ties}
+use Rattle.office_tables_statements.proofs.{ListedLemmas.IsListing, QueryLemmas.ArePaired, SoundLemmas.has_key_at, WriteLemmas.IsIdle, StoredLemmas.agree_ties}
 use Rattle.sqlite_value.proofs.OrderLemmas.{then-Equal}
 use Rattle.office_tables_shelf.proofs.{CellLemmas.cell_total, ListLemmas.where_all}
+use Rattle.office_tables_shelf.specs.declared.rows.Table.TheVariants as table
 
 -- the first key column is the parameter where its cell is that number
 first_is : (p id : ℕ) (rest : List ℕ) (row : Row) → are_sound (p ∷ rest) row ≡ true
@@ -45,22 +42,12 @@ each P a b c d e f g h table.UsedPart = h
 
 -- ---- the schema
 
-pub same_tree : (t : Table) → (layout_at t).tree ≡ (schema_at t).tree
-same_tree = each (λ t. (layout_at t).tree ≡ (schema_at t).tree) refl refl refl refl refl refl refl refl
-
-pub is_listed : (t : Table) → Has office_schema.tables (schema_at t)
-is_listed table.Intersection = inl refl
-is_listed table.Timing = inr (inl refl)
-is_listed table.Draft = inr (inr (inl refl))
-is_listed table.Inspection = inr (inr (inr (inl refl)))
-is_listed table.WorkOrder = inr (inr (inr (inr (inl refl))))
-is_listed table.Part = inr (inr (inr (inr (inr (inl refl)))))
-is_listed table.Delivery = inr (inr (inr (inr (inr (inr (inl refl))))))
-is_listed table.UsedPart = inr (inr (inr (inr (inr (inr (inr (inl refl)))))))
-
 pub is_placed : (t : Table) → slice_get office_schema.tables (place_at t) ≡ Some (schema_at t)
 is_placed =
     each (λ t. slice_get office_schema.tables (place_at t) ≡ Some (schema_at t)) refl refl refl refl refl refl refl refl
+
+pub is_listed : (t : Table) → Has office_schema.tables (schema_at t)
+is_listed t = has_got office_schema.tables (place_at t) (schema_at t) (is_placed t)
 
 pub is_low : (t : Table) (trees : Trees) → overlay trees [] (layout_at t).tree ≡ trees (layout_at t).tree
 is_low t trees =
@@ -100,13 +87,19 @@ pub record Facts (t : Table) : Type 0 where
 
 pub facts : (t : Table) → Facts t
 facts table.Intersection = record { key = inl refl; paired = tt; first = λ id. first_is 0 id [] }
-facts table.Timing = record { key = inr (record { keyless = refl; sound = refl; index = _; has = inl refl; guard = refl; order = refl; columns = refl }); paired = tt; first = λ id. first_is 1 id (2 ∷ 3 ∷ 4 ∷ []) }
-facts table.Draft = record { key = inr (record { keyless = refl; sound = refl; index = _; has = inr (inl refl); guard = refl; order = refl; columns = refl }); paired = tt; first = λ id. first_is 1 id (2 ∷ 3 ∷ 4 ∷ []) }
-facts table.Inspection = record { key = inr (record { keyless = refl; sound = refl; index = _; has = inr (inr (inl refl)); guard = refl; order = refl; columns = refl }); paired = tt; first = λ id. first_is 1 id (2 ∷ []) }
-facts table.WorkOrder = record { key = inr (record { keyless = refl; sound = refl; index = _; has = inr (inr (inr (inl refl))); guard = refl; order = refl; columns = refl }); paired = tt; first = λ id. first_is 1 id (2 ∷ []) }
-facts table.Part = record { key = inr (record { keyless = refl; sound = refl; index = _; has = inr (inr (inr (inr (inl refl)))); guard = refl; order = refl; columns = refl }); paired = tt; first = λ id. first_is 1 id [] }
-facts table.Delivery = record { key = inr (record { keyless = refl; sound = refl; index = _; has = inr (inr (inr (inr (inr (inl refl))))); guard = refl; order = refl; columns = refl }); paired = tt; first = λ id. first_is 1 id (2 ∷ []) }
-facts table.UsedPart = record { key = inr (record { keyless = refl; sound = refl; index = _; has = inr (inr (inr (inr (inr (inr (inl refl)))))); guard = refl; order = refl; columns = refl }); paired = tt; first = λ id. first_is 1 id (2 ∷ 3 ∷ []) }
+facts t = record {
+  key = inr (record {
+    keyless = refl;
+    sound = refl;
+    index = _;
+    has = has_got office_schema.indexes (pred (place_at t)) _ refl;
+    guard = refl;
+    order = refl;
+    columns = refl;
+  });
+  paired = tt;
+  first = λ id. first_is 1 id (drop 1 (layout_at t).keys);
+}
 
 -- ---- the rows of a list
 
@@ -144,13 +137,9 @@ listing_of filter _ = record { shows = λ params row. refl; orders = λ a b. ref
 
 -- ---- the content
 
-pub rows_in_tree : (t : Table) (trees : Trees) → rows_at (content_of trees) t ≡ rows_in (layout_at t) (trees (layout_at t).tree)
-rows_in_tree t trees = each (λ t. rows_at (content_of trees) t
-    ≡ rows_in (layout_at t) (trees (layout_at t).tree)) refl refl refl refl refl refl refl refl t
-
--- the same by the tree of the schema
 pub in_tree : (t : Table) (trees : Trees) → rows_at (content_of trees) t ≡ rows_in (layout_at t) (trees (schema_at t).tree)
-in_tree t trees = rows_in_tree t trees ∙ ap (λ n. rows_in (layout_at t) (trees n)) (same_tree t)
+in_tree t trees = each (λ t. rows_at (content_of trees) t
+    ≡ rows_in (layout_at t) (trees (schema_at t).tree)) refl refl refl refl refl refl refl refl t
 
 -- what holds the same rows table by table is the same
 pub same_content : (a b : Content) → ((t : Table) → rows_at a t ≡ rows_at b t) → a ≡ b

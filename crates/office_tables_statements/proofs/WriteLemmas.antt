@@ -2,15 +2,15 @@
 use Rattle.std.proofs.Common.{◌≡◌, ◌≢◌, ◌⊎◌, inl, inr, ℕ, ℤ, ◌==◌, List, [], ◌∷◌, length, slice_get, unwrap_or, not, true, false, Option, None, Some, Result, Ok, Err, sym, ap, subst, ◌∙◌, true≢false, eq-eqb, Bool, cond, MatchBool}
 use Rattle.std.proofs.lemmas.Bool.{cases_Bool, eqb-true, not-true, and_parts}
 use Rattle.std.specs.List.{AllByRecursion}
-use Rattle.sqlite.specs.{Command.Command, declared.error.Error.Error, Effect.Database, Order.Row, Does.Tally, Does.Does, Does.AtPlace, Does.OnRows, Does.WritesRows, Edit.without_all, Edit.edit_of, Edit.with_rowid, Edit.is_taken, Edit.are_fresh, Edit.put_all, Edit.have_rowids, Edit.taken_by, Listing.understood, Schema.Schema, Table.Table, View.IsShaped, View.is_int, Rows.Task, Rows.Written, Rows.Part, Rows.Gives, Rows.Inserts, Rows.CountsIn, Rows.Sourced, Rows.sequence, Rows.stamped, Rows.count_of, Rows.rowids_for, State.State, State.Runs, State.Writes, State.mode_of, Cast.cast_row, Tree.Trees, Tree.has_rowid, Tree.without_rowid, Tree.rowid, Tree.put_row, Rowids.TheVariants.Above, Rowids.TheVariants.Chosen, Source.Source}
-use Rattle.sqlite_rules.specs.Action.{works}
+use Rattle.sqlite.specs.{declared.types.Value.TheVariants.Null, Command.TheVariants.Delete, Edit.Edit, Edit.edited, Edit.left_by, Program.overlay, Query.Query, Query.IsAnswer, Rows.Edited, Rowids.TheVariants.Given, Command.Command, declared.error.Error.Error, Effect.Database, Order.Row, Does.Tally, Does.Does, Does.AtPlace, Does.OnRows, Does.WritesRows, Edit.without_all, Edit.edit_of, Edit.with_rowid, Edit.is_taken, Edit.are_fresh, Edit.put_all, Edit.have_rowids, Edit.taken_by, Listing.understood, Schema.Schema, Table.Table, View.IsShaped, View.is_int, Rows.Task, Rows.Written, Rows.Part, Rows.Gives, Rows.Inserts, Rows.CountsIn, Rows.Sourced, Rows.sequence, Rows.stamped, Rows.count_of, Rows.rowids_for, State.State, State.Runs, State.Writes, State.mode_of, Cast.cast_row, Tree.Trees, Tree.has_rowid, Tree.without_rowid, Tree.rowid, Tree.put_row, Rowids.TheVariants.Above, Rowids.TheVariants.Chosen, Source.Source}
+use Rattle.sqlite_rules.specs.{Calls.ids_of, Action.works}
 use Rattle.sqlite_schema.specs.declared.schema.Keys.TheVariants.{Enforced}
-use Rattle.sqlite_trees.specs.declared.store.Shape.TheVariants as shape
 use Rattle.sqlite_trees.proofs.{ListLemmas.all_both, TreeLemmas.IsShaped-filter, TreeLemmas.IsShaped-put_row}
 use Rattle.office_tables_statements.specs.Calls.{IsReady, Means, Ran, statement_of}
 use Rattle.office_tables_statements.specs.Schema.{office_schema}
 use Rattle.office_tables_statements.proofs.Meaning.{is_command}
 use Rattle.sqlite.proofs.Callers.{one_step}
+use Rattle.sqlite_trees.specs.declared.store.Shape.TheVariants as shape
 
 -- no foreign key acts on what a table loses
 pub record IsIdle (schema : Schema) (table : Table) : Type 0 where
@@ -86,6 +86,54 @@ module _ (sql : List ℕ) (command : Command) (means : Means sql command) (at : 
         };
       }
 
+-- ---- one step of it
+
+put_shaped : (news rows : List Row) → have_rowids news ≡ true → IsShaped shape.Table rows → IsShaped shape.Table (put_all rows news)
+put_shaped [] rows keyed was = was
+put_shaped (new ∷ news) rows keyed was =
+    let both = and_parts _ _ keyed in
+    put_shaped news (put_row new rows) both.1 (IsShaped-put_row new rows both.0 was)
+
+pub record Moved (edit : Edit) (db next : Trees) : Type 0 where
+  pub shapes : IsShaped shape.Table (next edit.table.tree)
+  pub rows : next edit.table.tree ≡ edited db edit
+  pub fresh : are_fresh (left_by db edit) edit.news ≡ true
+  pub others : AllByRecursion (λ x. x.tree ≢ edit.table.tree → next x.tree ≡ db x.tree) office_schema.tables
+
+pub moved : (edit : Edit) (db next : Trees) → works office_schema Enforced 0 edit.table.tree (taken_by db edit) edit.news ≡ [] → IsShaped shape.Table (db edit.table.tree)
+    → Edited office_schema Enforced db edit (Ok next) → Moved edit db next
+moved edit db next idle was did =
+    let it = one_step office_schema Enforced db next edit idle did in
+    record {
+      shapes = subst (IsShaped shape.Table) (sym it.rows) (put_shaped edit.news (left_by db edit) it.keyed (shaped_without edit.gone (db edit.table.tree) was));
+      rows = it.rows;
+      fresh = it.fresh;
+      others = it.tables;
+    }
+
+-- ---- a DELETE
+
+module _ (table : Table) (at : ℕ) (place : slice_get office_schema.tables at ≡ Some table) (idle : IsIdle office_schema table) (sql : List ℕ) (body : Query)
+    (means : Means sql (Delete at (record { lets = []; body = body }))) (params : Row) (old new : State) (count : ℕ) where
+  pub record Cut : Type 0 where
+    pub ready : IsReady new
+    pub found : List Row
+    pub answer : IsAnswer body (overlay old.now.trees []) params found
+    pub rows : new.now.trees table.tree ≡ without_all (old.now.trees table.tree) (ids_of found)
+    pub others : AllByRecursion (λ x. x.tree ≢ table.tree → new.now.trees x.tree ≡ old.now.trees x.tree) office_schema.tables
+
+  pub cut : IsShaped shape.Table (old.now.trees table.tree) → IsReady old → Ran sql params old new count → Cut
+  cut was ready did =
+      let it = wrote sql _ means at table place params old new count (record { runs = λ w. w; does = λ db out d. d }) ready did in
+      let asked = went_on it.rows in
+      let gone = went_on asked.2 in
+      let edit = edit_of old.now.trees table (ids_of asked.0) Given 0 [] in
+      let step = subst (Moved edit old.now.trees) (sym (it.trees ∙ ap (λ (w : Written). w.trees) (same_value gone.2)))
+      (moved edit old.now.trees gone.0 (idle.on_delete (taken_by old.now.trees edit)) was gone.1) in
+      record { ready = it.goes_on step.others step.shapes; found = asked.0; answer = asked.1.answer Null; rows = step.rows; others = step.others }
+
+-- ---- an INSERT
+
 -- a table whose rowids are not counted
 count_stays : (b : Bool) (db next : Trees) (top : Bool) (Other : Part Trees) → b ≡ false → MatchBool (cond b top false) (Other (Ok next)) (Gives db (Ok next)) → next ≡ db
 count_stays true db next top Other e h = absurd (true≢false e)
@@ -98,11 +146,8 @@ module _ (table : Table) (uncounted : table.is_counted ≡ false) (idle : IsIdle
   abbrev pub added : Row
   added = with_rowid Chosen (db table.tree) given
 
-  pub record Added (next : Trees) : Type 0 where
-    pub shapes : IsShaped shape.Table (next table.tree)
-    pub rows : next table.tree ≡ put_row added (db table.tree)
-    pub fresh : is_taken (db table.tree) added ≡ false
-    pub others : AllByRecursion (λ x. x.tree ≢ table.tree → next x.tree ≡ db x.tree) office_schema.tables
+  abbrev pub Added : Trees → Type 0
+  Added = Moved (record { table = table; gone = []; news = added ∷ [] }) db
 
   pub adds : ((rows : List Row) → Sourced limit (record { schema = office_schema; trees = db }) (stamped table params) from (Ok rows) → rows ≡ given ∷ []) → cast_row table given ≡ given
       → IsShaped shape.Table (db table.tree) → (w : Written) → Inserts inserting from db (Ok w) → Added w.trees
@@ -116,13 +161,6 @@ module _ (table : Table) (uncounted : table.is_counted ≡ false) (idle : IsIdle
       let edit = edit_of db table [] (rowids_for table (count_of counted.0)) 0 sourced.0 in
       let shown : edit.news ≡ with_rowid Chosen (db table.tree) (cast_row table given) ∷ [] = λ i. (edit_of db table [] (chosen i) 0 (rows i)).news in
       let made : edit.news ≡ added ∷ [] = shown ∙ ap (λ row. with_rowid Chosen (db table.tree) row ∷ []) casts in
-      let it = one_step office_schema Enforced db put.0 edit (subst (λ news. works office_schema Enforced 0 table.tree (taken_by db edit) news ≡ []) (sym made) (idle.on_change (taken_by db edit) added)) put.1 in
+      let it = moved edit db put.0 (subst (λ news. works office_schema Enforced 0 table.tree (taken_by db edit) news ≡ []) (sym made) (idle.on_change (taken_by db edit) added)) was put.1 in
       let same : w.trees ≡ put.0 = ap (λ (x : Written). x.trees) (same_value ended.2) ∙ count_stays table.is_counted put.0 ended.0 _ (CountsIn inserting put.0 counted.0 _ (sequence office_schema)) uncounted ended.1 in
-      let now : w.trees table.tree ≡ put_row added (db table.tree) = ap (λ (x : Trees). x table.tree) same ∙ it.rows ∙ ap (put_all (db table.tree)) made in
-      let numbered : is_int (rowid added) ≡ true = (and_parts _ _ (subst (λ news. have_rowids news ≡ true) made it.keyed)).0 in
-      record {
-        shapes = subst (IsShaped shape.Table) (sym now) (IsShaped-put_row added (db table.tree) numbered was);
-        rows = now;
-        fresh = not-true _ (and_parts _ _ (subst (λ news. are_fresh (db table.tree) news ≡ true) made it.fresh)).0;
-        others = subst (λ (x : Trees). AllByRecursion (λ (y : Table). y.tree ≢ table.tree → x y.tree ≡ db y.tree) office_schema.tables) (sym same) it.tables;
-      }
+      subst Added (sym same) (subst (λ news. Moved (record { table = table; gone = []; news = news }) db put.0) made it)

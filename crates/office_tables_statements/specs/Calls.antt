@@ -1,28 +1,16 @@
 -- What the calls of a shelf need of a connection and leave of it.
 use Rattle.std.specs.Prelude.{◌≡◌, ℕ, false, List, [], Option, Some, None, Result, Ok, Err, IsTrue, OnOk}
 use Rattle.std.specs.List.{AllByRecursion}
-use Rattle.sqlite.specs.Command.{Command}
-use Rattle.sqlite.specs.Command.TheVariants.{Nothing}
-use Rattle.sqlite.specs.Tree.{Trees}
-use Rattle.sqlite.specs.View.{IsShaped}
-use Rattle.sqlite_trees.specs.declared.store.Shape.TheVariants as shape
+use Rattle.sqlite.specs.{Command.Command, Command.TheVariants.Nothing, Tree.Trees, View.IsShaped, Order.Row, Effect.Database, Effect.IsDatabase, Held.Held, Held.state, Listing.understood}
 use Rattle.sqlite_trees.specs.declared.store.Store.{Ghosts}
-use Rattle.sqlite.specs.Order.{Row}
-use Rattle.sqlite.specs.Effect as effect
-use Rattle.sqlite.specs.Effect.{Database, IsDatabase}
-use Rattle.sqlite.specs.Held.{Held, state}
-use Rattle.sqlite.specs.Listing.{understood}
 use Rattle.sqlite.specs.State.{State, HasCleanDisk, Runs, Survives, text_of}
-use Rattle.sqlite_resolve.specs.Compile.{compiled}
-use Rattle.sqlite_resolve.specs.declared.compiled.Compiled.{Compiled}
-use Rattle.sqlite_resolve.specs.declared.error.CompileError.{CompileError}
+use Rattle.sqlite_resolve.specs.{Compile.compiled, declared.compiled.Compiled.Compiled, declared.error.CompileError.CompileError}
 use Rattle.sqlite_schema.specs.declared.command.Returning.{Returning}
-use Rattle.office_tables_shelf.specs.Shelf.{IsTold}
-use Rattle.office_tables_shelf.specs.declared.shelf.ShelfFault.{ShelfFault}
-use Rattle.office_tables_shelf.specs.Content.{Content}
-use Rattle.office_tables_statements.specs.Schema.{office_schema}
+use Rattle.office_tables_shelf.specs.{Shelf.IsTold, declared.shelf.ShelfFault.ShelfFault, Content.Content}
+use Rattle.office_tables_statements.specs.{Schema.office_schema, Stored.content_now}
+use Rattle.sqlite_trees.specs.declared.store.Shape.TheVariants as shape
+use Rattle.sqlite.specs.Effect as effect
 use Rattle.office_tables_statements.specs.Layout as layout
-use Rattle.office_tables_statements.specs.Stored.{content_now}
 
 -- The disk has returned what was written, and no failure of it has shut the database.
 abbrev pub IsHonest : State → Type 0

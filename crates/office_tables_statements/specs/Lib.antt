@@ -1,5 +1,5 @@
-pub mod Schema
 pub mod Wanted
+pub mod Schema
 pub mod Layout
 pub mod Stored
 pub mod Calls

@@ -1,25 +1,18 @@
 -- The trees of a database as the content of a shelf.
 use Rattle.std.specs.Prelude.{◌≡◌, ◌≢◌, ◌<◌, ℕ, Bool, true, false, List, length, map, Option, None, Some, Result, Err, IfOk}
 use Rattle.std.specs.List.{list_all}
-use Rattle.sqlite.specs.declared.types.Value.{Value}
-use Rattle.sqlite.specs.declared.types.Value.TheVariants.{Null, Int, Real, Text, Blob}
-use Rattle.sqlite.specs.Order.{Row, column}
-use Rattle.sqlite.specs.State.{State}
-use Rattle.sqlite.specs.Tree.{Trees}
+use Rattle.sqlite.specs.{declared.types.Value.Value, declared.types.Value.TheVariants.Null, declared.types.Value.TheVariants.Int, declared.types.Value.TheVariants.Text, Order.Row, Order.column, State.State, Tree.Trees}
 use Rattle.office_tables_shelf.specs.Cells.{Cell, TableRows, rows_by, null, number, text, odd}
-use Rattle.office_tables_shelf.specs.Content.{Content}
-use Rattle.office_tables_shelf.specs.declared.shelf.ShelfFault.{ShelfFault}
-use Rattle.office_tables_shelf.specs.declared.shelf.ShelfFault.TheVariants.{Damaged}
-use Rattle.office_tables_statements.specs.Layout.{Layout, layout_of, values_at}
-use Rattle.office_tables_statements.specs.Schema as schema
+use Rattle.office_tables_shelf.specs.{Content.Content, declared.shelf.ShelfFault.ShelfFault, declared.shelf.ShelfFault.TheVariants.Damaged}
+use Rattle.office_tables_statements.specs.Layout.{Layout, layout_at, values_at}
+use Rattle.office_tables_shelf.specs.declared.rows.Table.TheVariants as table
 
 -- a value of SQL as a cell: a real number and a blob are odd, which no office stores
 abbrev pub cell_of : Value → Cell
 cell_of Null = null
 cell_of (Int n) = number n
-cell_of (Real x) = odd
 cell_of (Text t) = text t
-cell_of (Blob b) = odd
+cell_of _ = odd
 
 -- a text as a cell, null where there is none
 abbrev pub text_or_null : Option (List ℕ) → Cell
@@ -51,14 +44,14 @@ rows_stored t trees = rows_in t (trees t.tree)
 -- what trees hold of the office's eight tables, as they are laid out
 abbrev pub content_of : Trees → Content
 content_of trees = record {
-  intersection = rows_stored (layout_of schema.intersection_table) trees;
-  timing = rows_stored (layout_of schema.timing_table) trees;
-  draft = rows_stored (layout_of schema.draft_table) trees;
-  inspection = rows_stored (layout_of schema.inspection_table) trees;
-  work_order = rows_stored (layout_of schema.work_order_table) trees;
-  part = rows_stored (layout_of schema.part_table) trees;
-  delivery = rows_stored (layout_of schema.delivery_table) trees;
-  used_part = rows_stored (layout_of schema.used_part_table) trees;
+  intersection = rows_stored (layout_at table.Intersection) trees;
+  timing = rows_stored (layout_at table.Timing) trees;
+  draft = rows_stored (layout_at table.Draft) trees;
+  inspection = rows_stored (layout_at table.Inspection) trees;
+  work_order = rows_stored (layout_at table.WorkOrder) trees;
+  part = rows_stored (layout_at table.Part) trees;
+  delivery = rows_stored (layout_at table.Delivery) trees;
+  used_part = rows_stored (layout_at table.UsedPart) trees;
 }
 
 -- what the tables of a connection hold now
@@ -67,11 +60,9 @@ content_now s = content_of s.now.trees
 
 -- the value is an integer or a text
 abbrev pub is_sound : Value → Bool
-is_sound Null = false
 is_sound (Int n) = true
-is_sound (Real x) = false
 is_sound (Text t) = true
-is_sound (Blob b) = false
+is_sound _ = false
 
 -- the values of the row at these places are each an integer or a text
 abbrev pub are_sound : List ℕ → Row → Bool

@@ -1,58 +1,24 @@
 -- The eight tables by their names: where each keeps its rows, and what its statements mean.
 use Rattle.std.specs.Prelude.{◌≡◌, ℕ, suc, pos, negsuc, Bool, true, false, ◌&&◌, cond, List, [], ◌∷◌, ◌++◌, map, length, Option, Some, None, IfSome, is_none, slice_get, unwrap_or, codes}
-use Rattle.std.specs.List.{list_all}
-use Rattle.std.specs.Option.{option_map}
-use Rattle.std.specs.FinMap.{get, entries}
+use Rattle.std.specs.{List.list_all, Option.option_map, FinMap.get, FinMap.entries}
 use Rattle.sqlite.specs.Command.TheVariants.{Select, Insert, Update, Delete}
-use Rattle.sqlite.specs.Kind.{Kind}
-use Rattle.sqlite.specs.Kind.TheVariants as kind
-use Rattle.sqlite.specs.declared.types.Value.{Value}
-use Rattle.sqlite.specs.declared.types.Value.TheVariants.{Null, Int, Text}
-use Rattle.sqlite.specs.Order.{Row}
-use Rattle.sqlite.specs.Query.{Query, inner, end}
-use Rattle.sqlite.specs.Source.{Source}
-use Rattle.sqlite.specs.Source.TheVariants.{Values}
-use Rattle.sqlite.specs.Table.{Table as SqlTable}
+use Rattle.sqlite.specs.{Kind.Kind, declared.types.Value.Value, declared.types.Value.TheVariants.Null, declared.types.Value.TheVariants.Int, declared.types.Value.TheVariants.Text, Order.Row, Query.Query, Query.inner, Query.end, Source.Source, Source.TheVariants.Values, Collation.TheVariants.Binary}
 use Rattle.sqlite.specs.Term.{Term, lit, col, op2}
-use Rattle.sqlite.specs.Collation.TheVariants.{Binary}
 use Rattle.sqlite_schema.specs.declared.schema.Column.{Column}
-use Rattle.sqlite_sql.specs.Group.{Grouping}
-use Rattle.sqlite_sql.specs.declared.aggregate.AggregateOp.TheVariants.{CountRows}
-use Rattle.sqlite_sql.specs.declared.ops.BinaryOp.TheVariants.{Compare}
-use Rattle.sqlite_sql.specs.declared.ops.CompareOp.TheVariants.{Eq}
-use Rattle.sqlite_value.specs.Keys.{ascending}
-use Rattle.signal_records.specs.Key.{kind_of, first_of, second_of}
-use Rattle.signal_records.specs.declared.key.Key.{Key}
+use Rattle.sqlite_sql.specs.{Group.Grouping, declared.aggregate.AggregateOp.TheVariants.CountRows, declared.ops.BinaryOp.TheVariants.Compare, declared.ops.CompareOp.TheVariants.Eq}
+use Rattle.sqlite_value.specs.{Keys.ascending, declared.keys.Key.Key as SqlKey}
+use Rattle.signal_records.specs.{Key.kind_of, Key.first_of, Key.second_of, declared.key.Key.Key}
 use Rattle.office_tables_shelf.specs.Cells.{Cell, TableRows, null, number, text, odd}
-use Rattle.office_tables_shelf.specs.Content.{Content}
+use Rattle.office_tables_shelf.specs.{Content.Content, Shelf.rows_of, declared.rows.Table.Table}
 pub use Rattle.office_tables_shelf.specs.Content.{rows_at, place_at, with_rows, put_in, remove_in, drop_in}
 pub use Rattle.office_tables_shelf.specs.Reads.{is_among, IsNoRow, HasDamagedRow, ReadsRow, HasDamagedUnder}
-use Rattle.office_tables_shelf.specs.Shelf.{rows_of}
-use Rattle.office_tables_shelf.specs.declared.rows.Table.{Table}
-use Rattle.office_tables_shelf.specs.declared.rows.Table.TheVariants as table
-use Rattle.office_tables_statements.specs.Calls.{Means}
-use Rattle.office_tables_statements.specs.Layout.{Layout, layout_of, places_from}
-use Rattle.office_tables_statements.specs.Schema as schema
-use Rattle.office_tables_statements.specs.Stored.{cells_at, are_sound, is_sound}
+use Rattle.office_tables_statements.specs.{Calls.Means, Layout.Layout, Layout.places_from, Stored.cells_at, Stored.are_sound, Stored.is_sound}
+pub use Rattle.office_tables_statements.specs.Layout.{schema_at, layout_at}
+use Rattle.sqlite.specs.Kind.TheVariants as kind
 
 -- ---- where each table is
 
--- the table of the schema for one of the eight
-abbrev pub schema_at : Table → SqlTable
-schema_at table.Intersection = schema.intersection_table
-schema_at table.Timing = schema.timing_table
-schema_at table.Draft = schema.draft_table
-schema_at table.Inspection = schema.inspection_table
-schema_at table.WorkOrder = schema.work_order_table
-schema_at table.Part = schema.part_table
-schema_at table.Delivery = schema.delivery_table
-schema_at table.UsedPart = schema.used_part_table
-
--- the layout of a table
-abbrev pub layout_at : Table → Layout
-layout_at t = layout_of (schema_at t)
-
--- the names of its columns
+-- the names of a table's columns
 abbrev pub names_of : Table → List (List ℕ)
 names_of t = map (λ (c : Column). c.name) (schema_at t).columns
 
@@ -128,19 +94,23 @@ pub record IsUnder (t : Table) (tables : Content) (key : List Cell) (found : Opt
 
 -- ---- the statements
 
--- the query that lists a table's rows in the order of their keys, by a filter
-abbrev pub listed_by : Layout → List Term → Query
-listed_by t filter = record {
+-- the query that shows these terms of the rows that pass the filter, grouped and ordered so
+abbrev query_of : Layout → List Term → Option Grouping → List Term → List (Term × SqlKey) → Query
+query_of t filter group shown order = record {
   from = inner t.tree end;
   filter = filter;
-  group = None;
-  project = map (col 1) (t.keys ++ t.columns);
+  group = group;
+  project = shown;
   distinct = false;
   collations = [];
-  order = map (λ p. (col 1 p, ascending Binary)) t.keys;
+  order = order;
   limit = lit (Int (negsuc 0));
   offset = lit (Int (pos 0));
 }
+
+-- the query that lists a table's rows in the order of their keys, by a filter
+abbrev pub listed_by : Layout → List Term → Query
+listed_by t filter = query_of t filter None (map (col 1) (t.keys ++ t.columns)) (map (λ p. (col 1 p, ascending Binary)) t.keys)
 
 -- the text lists the rows of a table, of one intersection or all, in the order of their keys
 abbrev pub IsListText : Table → Option ℕ → List ℕ → Type 0
@@ -152,17 +122,7 @@ count_grouping = record { keys = []; collations = []; aggregates = record { op =
 
 -- the query that counts a table's rows, by a filter
 abbrev pub counted_by : Layout → List Term → Query
-counted_by t filter = record {
-  from = inner t.tree end;
-  filter = filter;
-  group = Some count_grouping;
-  project = col 1 0 ∷ [];
-  distinct = false;
-  collations = [];
-  order = [];
-  limit = lit (Int (negsuc 0));
-  offset = lit (Int (pos 0));
-}
+counted_by t filter = query_of t filter (Some count_grouping) (col 1 0 ∷ []) []
 
 -- the text counts the rows of one intersection, which is its parameter, in a table
 abbrev pub IsCountText : Table → List ℕ → Type 0
@@ -170,17 +130,7 @@ IsCountText t sql = Means sql (Select (record { lets = []; body = counted_by (la
 
 -- the query that shows these terms of the rows that pass the filter
 abbrev pub picked_where : Layout → List Term → List Term → Query
-picked_where t filter shown = record {
-  from = inner t.tree end;
-  filter = filter;
-  group = None;
-  project = shown;
-  distinct = false;
-  collations = [];
-  order = [];
-  limit = lit (Int (negsuc 0));
-  offset = lit (Int (pos 0));
-}
+picked_where t filter shown = query_of t filter None shown []
 
 -- the query that shows these terms of the rows whose key columns are the parameters
 abbrev pub picked_by : Layout → List Term → Query
@@ -256,15 +206,9 @@ values_of = map value_of
 abbrev pub suits_kind : Kind → Cell → Bool
 suits_kind kind.Integer null = true
 suits_kind kind.Integer (number n) = true
-suits_kind kind.Integer (text t) = false
-suits_kind kind.Integer odd = false
 suits_kind kind.Text null = true
-suits_kind kind.Text (number n) = false
 suits_kind kind.Text (text t) = true
-suits_kind kind.Text odd = false
-suits_kind kind.Real c = false
-suits_kind kind.Blob c = false
-suits_kind kind.Any c = false
+suits_kind _ c = false
 
 -- columns take cells as they are, as far as both lists go
 abbrev pub suit : List Column → List Cell → Bool

@@ -2,10 +2,7 @@
 
 ghost use Rattle.std.specs.Prelude.{◌≡◌, ◌≢◌, ◌==◌, IfOk, IfSome, Ok, None};
 ghost use Rattle.std.specs.List.{slice_split};
-ghost use Rattle.signal_records.specs.Reading.{GivesSpelled, texts};
-ghost use Rattle.signal_records.specs.Spelling.{spelling};
-ghost use Rattle.signal_records.specs.Within.{IsRowWithin};
-ghost use Rattle.signal_records.specs.declared.record.Row.{Row};
+ghost use Rattle.signal_records.specs.{Reading.GivesSpelled, Reading.texts, Spelling.spelling, Within.IsRowWithin, declared.record.Row.Row};
 ghost use Rattle.office_tables_shelf.specs.Rows.{body_in};
 ghost use Rattle.office_tables_statements.specs.Versions.{limits_of};
 

@@ -3,16 +3,9 @@
 
 ghost use Rattle.std.specs.Prelude.{◌≡◌, ◌≢◌, ◌<◌, ◌≤◌, pos, length, Option, None, Some, IfOk, IfSome, OnOk, Ok};
 ghost use Rattle.sqlite.specs.Order.{column};
-ghost use Rattle.signal_records.specs.Key.{kind_of, first_of, second_of};
-ghost use Rattle.signal_records.specs.KeyOrder.{key_at};
-ghost use Rattle.signal_records.specs.Within.{IsRowWithin, IsKeyWithin, current_limits};
-ghost use Rattle.signal_records.specs.declared.key.Key.{Key};
-ghost use Rattle.signal_records.specs.declared.record.Row.{Row};
-ghost use Rattle.office_tables_shelf.specs.Cells.{number, text, null};
-ghost use Rattle.office_tables_shelf.specs.Rows.{body_in, timing_key};
-ghost use Rattle.office_tables_statements.specs.Stored.{cell_of};
-ghost use Rattle.office_tables_statements.specs.Listed.{shown_key};
-ghost use Rattle.office_tables_statements.specs.Versions.{limits_of};
+ghost use Rattle.signal_records.specs.{Key.kind_of, Key.first_of, Key.second_of, KeyOrder.key_at, Within.IsRowWithin, Within.IsKeyWithin, Within.current_limits, declared.key.Key.Key, declared.record.Row.Row};
+ghost use Rattle.office_tables_shelf.specs.{Cells.number, Cells.text, Cells.null, Rows.body_in, Rows.timing_key};
+ghost use Rattle.office_tables_statements.specs.{Stored.cell_of, Listed.shown_key, Versions.limits_of};
 
 use crate::body_reading::{Version, row_of_body};
 use crate::value::{number_at, text_or_null_at};
@@ -42,10 +35,8 @@ pub fn body_at(
     let Some(body) = text_or_null_at(row, at)? else {
         return Ok(None);
     };
-    match row_of_body(alloc, version, body)? {
-        Some(found) => Ok(Some(found)),
-        None => Err(ShelfFault::Damaged),
-    }
+    let found = row_of_body(alloc, version, body)?.ok_or(ShelfFault::Damaged)?;
+    Ok(Some(found))
 }
 
 /// Tests that the column at this place, from 0, has this number. `Damaged` means that it has not.
@@ -85,9 +76,7 @@ pub fn read_key(row: &SqlRow, id: InterId) -> Result<Key, ShelfFault>
     let kind = number_at(row, 1)?;
     let first = number_at(row, 2)?;
     let second = number_at(row, 3)?;
-    let Some(key) = key_of_numbers(kind, first, second) else {
-        return Err(ShelfFault::Damaged);
-    };
+    let key = key_of_numbers(kind, first, second).ok_or(ShelfFault::Damaged)?;
     check_key(row, id, &key)?;
     Ok(key)
 }

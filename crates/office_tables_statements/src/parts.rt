@@ -1,12 +1,9 @@
 //! The parts of a database's schema, compared with what the tables of the office have to be.
 
-ghost use Rattle.std.specs.Prelude.{◌≡◌, ◌<◌, ◌^◌, None, Some, [], ◌∷◌, false, map, slice_get, IsTrue};
-ghost use Rattle.std.specs.List.{AllByRecursion};
-ghost use Rattle.sqlite_value.specs.declared.value.Value.TheVariants.{Int};
-ghost use Rattle.sqlite_value.specs.Keys.{plain};
-ghost use Rattle.sqlite_schema.specs.declared.code.Op.TheVariants.{Column as AColumn, Literal as ALiteral};
+ghost use Rattle.std.specs.Prelude.{◌≡◌, ◌↔◌, [], Some, false, map, IsTrue};
+ghost use Rattle.sqlite_schema.specs.Code.{terms_in};
 ghost use Rattle.office_tables_statements.specs.Schema.{with_tree, IsAlikeOne, IsNameAmong};
-ghost use Rattle.office_tables_statements.specs.Wanted.{column_wanted, reference_wanted, ComparesAt, checks_wanted, key_of, primary_of, uniques_of, orders_of, table_wanted, index_wanted, indexes_wanted};
+ghost use Rattle.office_tables_statements.specs.Wanted.{column_wanted, reference_wanted, ComparesAt, checks_wanted, table_wanted, index_wanted, indexes_wanted};
 
 use sqlite_items::Items;
 use sqlite_schema::code::{Op, Terms};
@@ -15,203 +12,157 @@ use sqlite_sql::ops::{BinaryOp, CompareOp};
 use sqlite_value::keys::{Collation, Order};
 use sqlite_value::value::Value;
 
+/// What a part of a schema has to be.
+pub(crate) trait Wanted {
+    type Found;
+
+    /// The part that is wanted.
+    ghost made: { Self → Self.Found };
+
+    /// Whether a part is the wanted one.
+    fn is(&self, found: &Self::Found) -> bool
+        ensures { IsTrue result ↔ (found.now ≡ made self.now) };
+}
+
+/// Whether parts are the wanted ones, in their order.
+pub(crate) fn are<W: Wanted>(found: &[W::Found], wanted: &[W]) -> bool
+    ensures { IsTrue result ↔ (found.now ≡ map W.made wanted.now) }
+{
+    let Some((first, found)) = found.split_first() else {
+        return wanted.is_empty();
+    };
+    let Some((want, wanted)) = wanted.split_first() else {
+        return false;
+    };
+    want.is(first) && are(found, wanted)
+}
+
 /// What a column has to be: its name, its kind, and whether it refuses NULL.
-pub struct WantedColumn<'a>(pub &'a str, pub Kind, pub bool);
+pub type WantedColumn<'a> = (&'a str, Kind, bool);
+
+impl Wanted for WantedColumn<'_> {
+    type Found = Column;
+
+    ghost made = { column_wanted };
+
+    fn is(&self, found: &Column) -> bool {
+        found.name.as_slice() == self.0.as_bytes()
+            && found.kind == self.1
+            && found.is_strict
+            && found.not_null == self.2
+            && matches!(found.default, Value::Null)
+            && found.collation == Collation::Binary
+    }
+}
 
 /// What a foreign key has to be: the table that it names, and the places of its columns in a stored
 /// row, whose rowid is at place 0.
-pub(crate) struct WantedReference<'a>(pub(crate) &'a str, pub(crate) &'a [usize]);
+pub(crate) type WantedReference<'a> = (&'a str, &'a [usize]);
+
+impl Wanted for WantedReference<'_> {
+    type Found = Reference;
+
+    ghost made = { reference_wanted };
+
+    fn is(&self, found: &Reference) -> bool {
+        found.columns.as_slice() == self.1
+            && found.parent.as_slice() == self.0.as_bytes()
+            && found.parent_columns.is_empty()
+            && found.on_delete == Action::NoAction
+            && found.on_update == Action::NoAction
+            && !found.is_deferred
+    }
+}
 
 /// What a CHECK has to be: this comparison of the column at this place of a stored row with a
 /// number.
 pub(crate) struct WantedCheck(pub(crate) CompareOp, pub(crate) usize, pub(crate) i64);
 
-/// How the rows of a table are found.
-pub(crate) enum WantedKey<'a> {
-    /// By one INTEGER PRIMARY KEY, the first column.
-    Rowid,
-    /// By a PRIMARY KEY of the columns at these places of a stored row, which the index of that
-    /// name keeps.
-    Places(&'a [usize], &'a str),
-}
-
-/// What a table has to be. `tree` is its number, a place in the catalog.
-pub(crate) struct WantedTable<'a> {
-    pub(crate) name: &'a str,
-    pub(crate) tree: u32,
-    pub(crate) key: WantedKey<'a>,
-    pub(crate) columns: &'a [WantedColumn<'a>],
-    pub(crate) check: Option<WantedCheck>,
-    pub(crate) references: &'a [WantedReference<'a>],
-}
-
-fn is_column(column: &Column, want: &WantedColumn<'_>) -> bool
-    ensures is { IsTrue result → column.now ≡ column_wanted want.now }
-    ensures other { column.now ≡ column_wanted want.now → IsTrue result }
-{
-    column.name.as_slice() == want.0.as_bytes()
-        && column.kind == want.1
-        && column.is_strict
-        && column.not_null == want.2
-        && matches!(column.default, Value::Null)
-        && column.collation == Collation::Binary
-}
-
-fn are_columns(columns: &[Column], wanted: &[WantedColumn<'_>]) -> bool
-    ensures is { IsTrue result → columns.now ≡ map column_wanted wanted.now }
-    ensures other { columns.now ≡ map column_wanted wanted.now → IsTrue result }
-{
-    let Some((column, columns)) = columns.split_first() else {
-        return wanted.is_empty();
-    };
-    let Some((want, wanted)) = wanted.split_first() else {
-        return false;
-    };
-    is_column(column, want) && are_columns(columns, wanted)
-}
-
-fn is_reference(reference: &Reference, want: &WantedReference<'_>) -> bool
-    ensures is { IsTrue result → reference.now ≡ reference_wanted want.now }
-    ensures other { reference.now ≡ reference_wanted want.now → IsTrue result }
-{
-    reference.columns.as_slice() == want.1
-        && reference.parent.as_slice() == want.0.as_bytes()
-        && reference.parent_columns.is_empty()
-        && reference.on_delete == Action::NoAction
-        && reference.on_update == Action::NoAction
-        && !reference.is_deferred
-}
-
-fn are_references(references: &[Reference], wanted: &[WantedReference<'_>]) -> bool
-    ensures is { IsTrue result → references.now ≡ map reference_wanted wanted.now }
-    ensures other { references.now ≡ map reference_wanted wanted.now → IsTrue result }
-{
-    let Some((reference, references)) = references.split_first() else {
-        return wanted.is_empty();
-    };
-    let Some((want, wanted)) = wanted.split_first() else {
-        return false;
-    };
-    is_reference(reference, want) && are_references(references, wanted)
-}
-
-fn is_place(nodes: &[Op], at: usize, place: usize) -> bool
-    ensures is { IsTrue result → slice_get nodes.now at ≡ Some (AColumn 1 place) }
-    ensures other { slice_get nodes.now at ≡ Some (AColumn 1 place) → IsTrue result }
-{
-    match nodes.get(at) {
-        Some(Op::Column(slot, found)) => *slot == 1 && *found == place,
-        _ => false,
-    }
-}
-
-fn is_number(nodes: &[Op], at: usize, number: i64) -> bool
-    ensures is { IsTrue result → slice_get nodes.now at ≡ Some (ALiteral (Int number)) }
-    ensures other { slice_get nodes.now at ≡ Some (ALiteral (Int number)) → IsTrue result }
-{
-    match nodes.get(at) {
-        Some(Op::Literal(Value::Int(found))) => *found == number,
-        _ => false,
-    }
-}
-
-/// Whether the node at this place is the wanted comparison of a column with a number.
-fn compares(nodes: &[Op], root: usize, want: &WantedCheck) -> bool
-    ensures is { IsTrue result → ComparesAt nodes.now root want.now }
-    ensures other { ComparesAt nodes.now root want.now → IsTrue result }
+/// Whether the node at this place is the wanted comparison.
+fn is_comparison(nodes: &[Op], root: usize, want: &WantedCheck) -> bool
+    ensures { IsTrue result ↔ ComparesAt nodes.now root want.now }
 {
     match nodes.get(root) {
         Some(Op::Binary(BinaryOp::Compare(found, Collation::Binary), left, right)) => {
-            *found == want.0 && is_place(nodes, *left, want.1) && is_number(nodes, *right, want.2)
+            *found == want.0
+                && matches!(nodes.get(*left), Some(Op::Column(1, place)) if *place == want.1)
+                && matches!(nodes.get(*right), Some(Op::Literal(Value::Int(n))) if *n == want.2)
         }
         _ => false,
     }
 }
 
-/// Whether the checks of a table are the one that is wanted.
-fn is_comparison(checks: &Terms, want: &WantedCheck) -> bool
-    ensures is { IsTrue result → checks.now ≡ checks_wanted (Some want.now) }
-    ensures other { checks.now ≡ checks_wanted (Some want.now) → IsTrue result }
+/// Whether the terms with these roots are one, the wanted comparison.
+fn is_check(nodes: &[Op], roots: &[usize], want: &WantedCheck) -> bool
+    ensures { IsTrue result ↔ (terms_in nodes.now roots.now ≡ checks_wanted (Some want.now)) }
 {
-    let nodes = checks.nodes.as_slice();
-    let [root] = checks.roots.as_slice() else {
+    let [root] = roots else {
         return false;
     };
-    nodes.len() > 1 && compares(nodes, *root, want)
+    if nodes.len() < 2 {
+        return false;
+    }
+    is_comparison(nodes, *root, want)
 }
 
+/// Whether the checks of a table are the one that is wanted, if one is.
 fn are_checks(checks: &Terms, want: &Option<WantedCheck>) -> bool
-    ensures is { IsTrue result → checks.now ≡ checks_wanted want.now }
-    ensures other { checks.now ≡ checks_wanted want.now → IsTrue result }
+    ensures { IsTrue result ↔ (checks.now ≡ checks_wanted want.now) }
 {
     match want {
         None => checks.roots.is_empty(),
-        Some(want) => is_comparison(checks, want),
+        Some(want) => is_check(checks.nodes.as_slice(), checks.roots.as_slice(), want),
     }
 }
 
-fn is_key(key: &Items<usize>, places: &[usize]) -> bool
-    ensures is { IsTrue result → key.now ≡ places.now }
-    ensures other { key.now ≡ places.now → IsTrue result }
-{
-    key.as_slice() == places
+/// How a table's rows are found: the places of its PRIMARY KEY in a stored row, and the name of the
+/// index that keeps it; none where the key is the rowid.
+pub(crate) type WantedKey<'a> = (&'a [usize], Option<&'a str>);
+
+impl Wanted for &[usize] {
+    type Found = Items<usize>;
+
+    ghost made = { λ places. places.now };
+
+    fn is(&self, found: &Items<usize>) -> bool {
+        found.as_slice() == *self
+    }
 }
 
-fn is_one_key(keys: &[Items<usize>], places: &[usize]) -> bool
-    ensures is { IsTrue result → keys.now ≡ places.now ∷ [] }
-    ensures other { keys.now ≡ places.now ∷ [] → IsTrue result }
-{
-    let Some((key, others)) = keys.split_first() else {
-        return false;
-    };
-    is_key(key, places) && others.is_empty()
-}
+/// What a table has to be: its name, its number, which is a place in the catalog, its key, its
+/// columns, its CHECK, and its foreign keys.
+pub(crate) type WantedTable<'a> = (
+    &'a str,
+    u32,
+    WantedKey<'a>,
+    &'a [WantedColumn<'a>],
+    Option<WantedCheck>,
+    &'a [WantedReference<'a>],
+);
 
-fn is_plain_order(orders: &[Order]) -> bool
-    ensures is { IsTrue result → orders.now ≡ plain ∷ [] }
-    ensures other { orders.now ≡ plain ∷ [] → IsTrue result }
+/// Whether the rows of a table are found by the wanted key, at these places.
+fn is_keyed(table: &Table, want: &WantedTable<'_>) -> bool
+    ensures { IsTrue result ↔ ((table.now.key ≡ (table_wanted want.now).key)
+        × (table.now.uniques ≡ (table_wanted want.now).uniques)
+        × (table.now.orders ≡ (table_wanted want.now).orders)) }
 {
-    let [order] = orders else {
-        return false;
-    };
-    *order == Order::PLAIN
-}
-
-/// Whether the rows of the table are found by the wanted key.
-fn is_keyed(table: &Table, want: &WantedKey<'_>) -> bool
-    ensures key { IsTrue result → table.now.key ≡ key_of want.now }
-    ensures primary { IsTrue result → table.now.primary ≡ primary_of want.now }
-    ensures uniques { IsTrue result → table.now.uniques ≡ uniques_of want.now }
-    ensures orders { IsTrue result → table.now.orders ≡ orders_of want.now }
-    ensures other { table.now.key ≡ key_of want.now → table.now.primary ≡ primary_of want.now →
-        table.now.uniques ≡ uniques_of want.now → table.now.orders ≡ orders_of want.now →
-        IsTrue result }
-{
-    match want {
-        WantedKey::Rowid => {
-            table.key == Some(0)
-                && table.primary.as_slice() == [0].as_slice()
-                && table.uniques.is_empty()
-                && table.orders.is_empty()
-        }
-        WantedKey::Places(places, _) => {
-            table.key.is_none()
-                && table.primary.as_slice() == *places
-                && is_one_key(table.uniques.as_slice(), places)
-                && is_plain_order(table.orders.as_slice())
+    let (uniques, orders) = (table.uniques.as_slice(), table.orders.as_slice());
+    match want.2 {
+        (_, None) => table.key == Some(0) && uniques.is_empty() && orders.is_empty(),
+        (places, Some(_)) => {
+            let [order] = orders else {
+                return false;
+            };
+            table.key.is_none() && are(uniques, &[places]) && *order == Order::PLAIN
         }
     }
 }
 
 /// Whether the table computes nothing of a new row, and has no AUTOINCREMENT.
 fn is_plain(table: &Table) -> bool
-    ensures computed { IsTrue result → table.now.computed ≡ [] }
-    ensures stamps { IsTrue result →
-        table.now.stamps ≡ record { places = []; terms = []; formats = [] } }
-    ensures is_counted { IsTrue result → table.now.is_counted ≡ false }
-    ensures other { table.now.computed ≡ [] →
-        table.now.stamps ≡ record { places = []; terms = []; formats = [] } →
-        table.now.is_counted ≡ false → IsTrue result }
+    ensures { IsTrue result ↔ ((table.now.computed ≡ [])
+        × (table.now.stamps ≡ record { places = []; terms = []; formats = [] })
+        × (table.now.is_counted ≡ false)) }
 {
     table.computed.is_empty()
         && table.stamps.places.is_empty()
@@ -222,15 +173,26 @@ fn is_plain(table: &Table) -> bool
 
 /// Whether the table is the wanted one, whatever its number.
 fn is_alike(table: &Table, want: &WantedTable<'_>) -> bool
-    ensures is { IsTrue result → table.now ≡ with_tree (table_wanted want.now) table.now.tree }
-    ensures other { table.now ≡ with_tree (table_wanted want.now) table.now.tree → IsTrue result }
+    ensures { IsTrue result ↔ (table.now ≡ with_tree (table_wanted want.now) table.now.tree) }
 {
-    table.name.as_slice() == want.name.as_bytes()
-        && are_columns(table.columns.as_slice(), want.columns)
-        && is_keyed(table, &want.key)
-        && are_checks(&table.checks, &want.check)
-        && are_references(table.references.as_slice(), want.references)
+    let (name, _, key, columns, check, references) = want;
+    table.name.as_slice() == name.as_bytes()
+        && are(table.columns.as_slice(), columns)
+        && table.primary.as_slice() == key.0
+        && is_keyed(table, want)
+        && are_checks(&table.checks, check)
+        && are(table.references.as_slice(), references)
         && is_plain(table)
+}
+
+impl Wanted for WantedTable<'_> {
+    type Found = Table;
+
+    ghost made = { table_wanted };
+
+    fn is(&self, found: &Table) -> bool {
+        found.tree == self.1 && is_alike(found, self)
+    }
 }
 
 /// Whether the table is one of the wanted ones, whatever its number.
@@ -251,59 +213,33 @@ pub(crate) fn is_named(name: &[u8], wanted: &[WantedTable<'_>]) -> bool
     let Some((want, wanted)) = wanted.split_first() else {
         return false;
     };
-    name == want.name.as_bytes() || is_named(name, wanted)
+    name == want.0.as_bytes() || is_named(name, wanted)
 }
 
-fn is_table(table: &Table, want: &WantedTable<'_>) -> bool
-    ensures is { IsTrue result → table.now ≡ table_wanted want.now }
-    ensures other { table.now ≡ table_wanted want.now → IsTrue result }
-{
-    table.tree == want.tree && is_alike(table, want)
-}
-
-/// Whether the tables are the wanted ones, in their order and under their numbers.
-pub(crate) fn are_tables(tables: &[Table], wanted: &[WantedTable<'_>]) -> bool
-    ensures is { IsTrue result → tables.now ≡ map table_wanted wanted.now }
-    ensures other { tables.now ≡ map table_wanted wanted.now → IsTrue result }
-{
-    let Some((table, tables)) = tables.split_first() else {
-        return wanted.is_empty();
-    };
-    let Some((want, wanted)) = wanted.split_first() else {
-        return false;
-    };
-    is_table(table, want) && are_tables(tables, wanted)
-}
-
-/// Whether the index keeps the PRIMARY KEY of the table with this number, whose columns are at
-/// these places.
+/// Whether the index is that of this name which keeps the key of this table.
 fn is_index(index: &Index, name: &str, table: u32, places: &[usize]) -> bool
-    requires { table < 2 ^ 31 }
-    ensures is { IsTrue result → index.now ≡ index_wanted name.now table places.now }
-    ensures other { index.now ≡ index_wanted name.now table places.now → IsTrue result }
+    ensures { IsTrue result ↔ (index.now ≡ index_wanted name.now table places.now) }
 {
     index.name.as_slice() == name.as_bytes()
-        && index.tree == table + 1
+        && index.tree.checked_sub(1) == Some(table)
         && index.table == table
         && index.columns.as_slice() == places
         && index.order == Order::PLAIN
         && index.is_unique
 }
 
-/// Whether the indexes are those of the wanted tables' PRIMARY KEYs, in the order of the tables.
+/// Whether the indexes are those of the wanted tables' keys, in the order of the tables.
 pub(crate) fn are_indexes(indexes: &[Index], wanted: &[WantedTable<'_>]) -> bool
-    requires { AllByRecursion (λ w. w.tree < 2 ^ 31) wanted.now }
-    ensures is { IsTrue result → indexes.now ≡ indexes_wanted wanted.now }
-    ensures other { indexes.now ≡ indexes_wanted wanted.now → IsTrue result }
+    ensures { IsTrue result ↔ (indexes.now ≡ indexes_wanted wanted.now) }
 {
-    let Some((want, wanted)) = wanted.split_first() else {
+    let Some(((_, table, key, ..), wanted)) = wanted.split_first() else {
         return indexes.is_empty();
     };
-    let WantedKey::Places(places, name) = &want.key else {
+    let (places, Some(name)) = key else {
         return are_indexes(indexes, wanted);
     };
     let Some((index, indexes)) = indexes.split_first() else {
         return false;
     };
-    is_index(index, name, want.tree, places) && are_indexes(indexes, wanted)
+    is_index(index, name, *table, places) && are_indexes(indexes, wanted)
 }

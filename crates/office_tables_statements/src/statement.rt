@@ -2,9 +2,7 @@
 
 ghost use Rattle.std.specs.Prelude.{◌≡◌, IfOk, OnOk};
 ghost use Rattle.std.specs.Option.{option_to_list};
-ghost use Rattle.sqlite.specs.Values.{bound};
-ghost use Rattle.sqlite.specs.State.{HasCleanDisk};
-ghost use Rattle.sqlite.specs.Held.{state};
+ghost use Rattle.sqlite.specs.{Values.bound, State.HasCleanDisk, Held.state};
 ghost use Rattle.office_tables_statements.specs.Calls.{IsHonest, IsOffice, IsStatement, Keeps, Reads, Ran, StandsOn, StaysOpen};
 
 use office_tables_shelf::shelf::ShelfFault;

@@ -4,8 +4,7 @@ ghost use Rattle.std.specs.Prelude.{◌≡◌, ◌≢◌, ◌≤◌, ◌<◌, �
 ghost use Rattle.sqlite.specs.Order.{column};
 ghost use Rattle.std.specs.Int.{IsInRange};
 ghost use Rattle.signal_values.specs.Words.{AreWords};
-ghost use Rattle.cabinet_core.specs.Day.{IsDay};
-ghost use Rattle.cabinet_core.specs.Part.{IsPartCode};
+ghost use Rattle.cabinet_core.specs.{Day.IsDay, Part.IsPartCode};
 ghost use Rattle.office_tables_shelf.specs.Cells.{null, number, text};
 ghost use Rattle.office_tables_statements.specs.Stored.{ReadsColumn, cell_of, text_or_null};
 ghost use Rattle.signal_records.specs.declared.revision.TheConstants.{LAST_REVISION};
@@ -46,22 +45,14 @@ pub fn ranged_at<Of, const LOW: u32, const HIGH: u32>(
 ) -> Result<Number<Of, LOW, HIGH>, ShelfFault>
     ensures { ReadsColumn (λ n. number (pos n)) (IsInRange LOW HIGH) row.now at result }
 {
-    let n = number_at(row, at)?;
-    match Number::new(n) {
-        Some(number) => Ok(number),
-        None => Err(ShelfFault::Damaged),
-    }
+    Number::new(number_at(row, at)?).ok_or(ShelfFault::Damaged)
 }
 
 /// The revision in a column, 0 to `LAST_REVISION`. `Damaged` means that it has none.
 pub fn revision_at(row: &Row, at: usize) -> Result<Revision, ShelfFault>
     ensures { ReadsColumn (λ n. number (pos n)) (λ n. n ≤ LAST_REVISION) row.now at result }
 {
-    let n = number_at(row, at)?;
-    match Revision::new(n) {
-        Some(revision) => Ok(revision),
-        None => Err(ShelfFault::Damaged),
-    }
+    Revision::new(number_at(row, at)?).ok_or(ShelfFault::Damaged)
 }
 
 /// The bytes of the text in a column. `Damaged` means that it has no text.
@@ -99,10 +90,7 @@ pub fn words_at<const MAX: usize>(
 ) -> Result<Words<MAX>, ShelfFault>
     ensures { ReadsColumn text (AreWords MAX) row.now at result }
 {
-    match Words::new(alloc, text_at(row, at)?)? {
-        Some(words) => Ok(words),
-        None => Err(ShelfFault::Damaged),
-    }
+    Words::new(alloc, text_at(row, at)?)?.ok_or(ShelfFault::Damaged)
 }
 
 /// The words in a column; none where it is NULL. `Damaged` means that it has neither, `NoMemory`
@@ -117,21 +105,15 @@ pub fn words_or_null_at<const MAX: usize>(
     let Some(found) = text_or_null_at(row, at)? else {
         return Ok(None);
     };
-    match Words::new(alloc, found)? {
-        Some(words) => Ok(Some(words)),
-        None => Err(ShelfFault::Damaged),
-    }
+    let words = Words::new(alloc, found)?.ok_or(ShelfFault::Damaged)?;
+    Ok(Some(words))
 }
 
 /// The day in a column, by its number, 0 to 84,005. `Damaged` means that it has none.
 pub fn day_at(row: &Row, at: usize) -> Result<Day, ShelfFault>
     ensures { ReadsColumn (λ day. number (pos day)) IsDay row.now at result }
 {
-    let n = number_at(row, at)?;
-    match Day::new(n) {
-        Some(day) => Ok(day),
-        None => Err(ShelfFault::Damaged),
-    }
+    Day::new(number_at(row, at)?).ok_or(ShelfFault::Damaged)
 }
 
 /// The code of a part in a column. `Damaged` means that it has none, `NoMemory` that a growth was
@@ -139,10 +121,7 @@ pub fn day_at(row: &Row, at: usize) -> Result<Day, ShelfFault>
 pub fn code_at(alloc: Global, row: &Row, at: usize) -> Result<PartCode, ShelfFault>
     ensures { ReadsColumn text IsPartCode row.now at result }
 {
-    match PartCode::new(alloc, text_at(row, at)?)? {
-        Some(code) => Ok(code),
-        None => Err(ShelfFault::Damaged),
-    }
+    PartCode::new(alloc, text_at(row, at)?)?.ok_or(ShelfFault::Damaged)
 }
 
 /// Tests that the column is NULL. `Damaged` means that it is not.
@@ -151,8 +130,7 @@ pub fn check_null(row: &Row, at: usize) -> Result<(), ShelfFault>
     ensures damaged { result ≡ Err ShelfFault.Damaged → at < length row.now →
         cell_of (column row.now at) ≢ null }
 {
-    let stored: Option<u32> = value_at(row, at)?;
-    match stored {
+    match value_at::<Option<u32>>(row, at)? {
         Some(_) => Err(ShelfFault::Damaged),
         None => Ok(()),
     }

@@ -1,5 +1,4 @@
-use Rattle.std.proofs.{Common.eqb, Common.rules, Common.tests, lemmas.Iterator.Consumers.map_from_collect}
-use Rattle.std.proofs.lemmas.Iterator.Splits.{YieldsList-from_slice_split}
+use Rattle.std.proofs.{Common.eqb, Common.rules, Common.tests, lemmas.Iterator.Consumers.map_from_collect, lemmas.Iterator.Splits.YieldsList-from_slice_split}
 use Rattle.office_tables_statements.proofs.body_reading.fields_of.Goals as goal
 
 pub returns : goal.returns

@@ -1,12 +1,9 @@
 use Rattle.std.proofs.Common.{sym, ap, ◌∙◌}
-use Rattle.signal_records.specs.Reading.{texts}
-use Rattle.signal_records.specs.Within.{AreLimits}
+use Rattle.signal_records.specs.{Reading.texts, Within.AreLimits}
 use Rattle.signal_records.proofs.RowLaws.{are_current, are_version_1}
 use Rattle.std.specs.List.{slice_split}
 use Rattle.office_tables_shelf.proofs.RowLemmas.{is_comma, fields_back, body_back}
-use Rattle.office_tables_statements.specs.Versions.{limits_of}
-use Rattle.office_tables_statements.specs.declared.body_reading.Version.{Version}
-use Rattle.office_tables_statements.specs.declared.body_reading.Version.TheVariants.{First, Current}
+use Rattle.office_tables_statements.specs.{Versions.limits_of, declared.body_reading.Version.Version, declared.body_reading.Version.TheVariants.First, declared.body_reading.Version.TheVariants.Current}
 use Rattle.office_tables_statements.proofs.body_reading.row_of_body.Goals as goal
 
 are_limits : (version : Version) → AreLimits (limits_of version)
