@@ -4,7 +4,7 @@ use Rattle.std.specs.{FinMap.entries, Prelude.IsErrAnd}
 use Rattle.std.proofs.lemmas.Bool.{cases_Bool}
 use Rattle.sqlite.specs.{Order.Row, Order.column, Tree.Trees, Effect.Database, Held.Held, Held.state}
 use Rattle.sqlite.specs.State.{State, HasCleanDisk, Survives}
-use Rattle.sqlite.proofs.StateLemmas.{survives_then, survives_weaker}
+use Rattle.sqlite.proofs.StateLemmas.{survives_then}
 use Rattle.sqlite_tied.specs.Compute.{everything}
 use Rattle.sqlite_trees.specs.declared.store.Store.{Ghosts}
 use Rattle.signal_records.proofs.RowLaws.{are_version_1}
@@ -18,14 +18,14 @@ use Rattle.office_tables_shelf.proofs.RowLemmas.{same_row}
 use Rattle.office_tables_statements.specs.Calls.{IsHonest, IsOffice, Keeps}
 use Rattle.office_tables_statements.specs.{Listed.shown_key, Stored.cell_of, Stored.content_now, Stored.content_of, Tables.IsListText, Tables.columns_shown, Tables.key_shown, Tables.width_of}
 use Rattle.office_tables_statements.proofs.CallLemmas.{survives_on}
-use Rattle.office_tables_sql.specs.Version.{AreToday, Completes, version_in, current_version, first_version}
-use Rattle.office_tables.specs.Opening.{IsOpenIfClean, WritesToday}
+use Rattle.office_tables_sql.specs.Version.{Completes, version_in, first_version}
+use Rattle.office_tables.specs.Opening.{WritesToday}
 use Rattle.office_tables.specs.Rewritten.{IsFormer, Kept, Puts, former_columns, has_ped, kept_key, put_again, puts, table_of}
 use Rattle.office_tables.specs.Migration.{IsMigrated}
-use Rattle.office_tables.specs.Migrate.{HasDamagedFormer, HasNeitherVersion, IsAnew, MayBecome, Migrates}
+use Rattle.office_tables.specs.Migrate.{IsAnew, MayBecome, Migrates}
 use Rattle.office_tables.specs.declared.{open.OpenFault.OpenFault, rewritten.Migrated.Migrated, rewritten.Spelled.Spelled, rewritten.Spelled.TheVariants.Timing, rewritten.Spelled.TheVariants.Draft, rewritten.TheConstants.TIMING, rewritten.TheConstants.DRAFT}
 use Rattle.office_tables.specs.declared.open.OpenFault.TheVariants as fault
-use Rattle.office_tables.proofs.{Migration.migrated, VersionLemmas.are_today}
+use Rattle.office_tables.proofs.Migration.{migrated}
 
 changed_after : (tables : Content) (first second : List RowChange) → changed_by tables (first ++ second) ≡ changed_by (changed_by tables first) second
 changed_after tables [] second = refl
@@ -52,39 +52,6 @@ module _ {S : Type 0} (g : Ghosts S) (old mid : Held S) (office : IsOffice (stat
 
   still : IsHonest (state g mid) → (state g mid).committed.trees ≡ (state g old).committed.trees
   still h = ap (λ (d : Database). d.trees) (sym (keeps.office.settled h)) ∙ same h
-
-  -- refused before anything was written
-  pub refused : (why : OpenFault) → (why ≡ fault.Version → HasCleanDisk (state g mid) → HasNeitherVersion (state g old).committed.trees)
-      → (why ≡ fault.Damaged → HasCleanDisk (state g mid) → HasDamagedFormer (state g old).committed.trees) → Migrates g (Err why) old mid
-  refused why version damaged = record {
-    brought = λ h. tt;
-    version = λ is clean. inr (inl (version (cc) clean));
-    damaged = λ is clean. damaged (cc) clean;
-    unchanged = still;
-    crash = survives_weaker _ _ (λ _. ⊥) _ (λ _ _ none. absurd none) keeps.crash;
-    settled = λ h. tt;
-    opened = λ h. tt;
-    idle = λ _. keeps.office.autocommit;
-  }
-
-  -- today's version was stored
-  pub unchanged : (IsHonest (state g mid) → Some current_version ≡ version_in (state g old).now.trees) → IsOpenIfClean (state g mid)
-      → ((trees : Trees) → IsTrue (state g mid).is_open → (state g mid).may_leave trees → trees ≡ (state g mid).committed.trees)
-      → Migrates g (Ok (record { timing = 0; draft = 0 })) old mid
-  unchanged stored opened stays = record {
-    brought = λ h. inl (record {
-      was = subst AreToday (same h) (are_today (state g mid) (keeps.office.schema h) (keeps.office.sound h) (ap (λ (d : Database). version_in d.trees) (keeps.same h) ∙ sym (stored h)));
-      same = same h;
-      none = refl;
-    });
-    version = λ is. absurd cc;
-    damaged = λ is. absurd cc;
-    unchanged = λ h. tt;
-    crash = survives_weaker _ _ (λ _. ⊥) _ (λ _ _ none. absurd none) keeps.crash;
-    settled = λ h trees may. stays trees h.1 may ∙ sym (ap (λ (d : Database). d.trees) (keeps.office.settled h));
-    opened = opened;
-    idle = λ _. keeps.office.autocommit;
-  }
 
   module _ (new : Held S) (tables : Content) (count : Migrated) (anew : IsHonest (state g mid) → (trees : Trees) → Completes tables trees → IsAnew (state g old).committed.trees trees count) where
     crash : Survives (state g mid) (state g new) (λ trees. IsHonest (state g mid) × Completes tables trees) → Survives (state g old) (state g new) (MayBecome (state g old).committed.trees)

@@ -125,13 +125,6 @@ module _ {S : Type 0} (g : Ghosts S) (conn : Held S) where
     kept : HasCleanDisk (state g c) → (state g c).committed.trees ≡ old.committed.trees
     kept h = found.committed h (opened h).1
 
-    pub refused_found : (why : OpenFault) → (HasCleanDisk (state g c) → Tells why old.committed.trees) → IsRefused g conn why (Ok c)
-    refused_found why told = record {
-      told = told;
-      left = record { clean = found.clean; committed = found.committed; crash = λ h trees may. inl (found.crash h trees may) };
-      idle = inl idle;
-    }
-
     pub prepares_before : (r : Result (Held S) (OpenFault × Result (Held S) S)) → Prepares g c r → Prepares g conn r
     prepares_before (Ok last) it = record {
       opened = it.opened;
