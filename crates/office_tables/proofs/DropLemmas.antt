@@ -5,26 +5,20 @@ use Rattle.std.specs.{List.AllZip, List.position_from, List.list_any}
 use Rattle.sqlite.specs.Does.{AtPlace, Drops as DoesDrop, Empties, HoldWithout, Leaves, Tally, Tested, Uncounts, no_rows}
 use Rattle.sqlite.specs.{Rows.Gives, Rows.Outcome, Rows.Part, Rows.Task, Rows.Then, Command.Command, Command.TheVariants.DropTable, Command.TheVariants.Nothing, Effect.Database, Effect.IsDatabase, Held.Held, Held.state, Listing.understood, State.State, Order.Row, State.ExecutesInside, State.mode_of, Tree.Trees, declared.run.Mode.Mode}
 use Rattle.sqlite.proofs.Callers.{runs_as, through, IsPlain}
-use Rattle.sqlite_ast.specs.declared.Statement.TheVariants as written
-use Rattle.sqlite_catalog.specs.Change.{without_table}
-use Rattle.sqlite_catalog.specs.Listing.{IsIndexRow}
-use Rattle.sqlite_catalog.proofs.ListFacts.{none_placed}
-use Rattle.sqlite_catalog.proofs.{SoundLemmas.lowered, StepLemmas.named_once}
+use Rattle.sqlite_catalog.specs.{Change.without_table, Listing.IsIndexRow}
+use Rattle.sqlite_catalog.proofs.{ListFacts.none_placed, SoundLemmas.lowered, StepLemmas.named_once}
 use Rattle.sqlite_resolve.specs.Compile.{compiled, drop_table, first, is_reserved, meaning, planned, returning, command, timed}
 use Rattle.sqlite_resolve.specs.declared.compiled.Compiled.{Compiled}
 use Rattle.sqlite_rules.proofs.ListLemmas.{all_has, has_filtered}
 use Rattle.sqlite_rules.specs.Lists.{Has}
-use Rattle.sqlite_schema.specs.Names.{same_name, table_named}
-use Rattle.sqlite_schema.specs.declared.{schema.Index.Index, schema.Keys.TheVariants.Enforced, schema.Schema.Schema, schema.Table.Table}
+use Rattle.sqlite_schema.specs.{Names.same_name, Names.table_named, declared.schema.Index.Index, declared.schema.Keys.TheVariants.Enforced, declared.schema.Schema.Schema, declared.schema.Table.Table}
 use Rattle.sqlite_syntax.specs.declared.statement.Parsed.{Parsed}
 use Rattle.sqlite_tied.specs.Compute.{everything}
 use Rattle.sqlite_trees.specs.declared.store.Store.{Ghosts}
-use Rattle.office_tables_statements.specs.Schema.{no_schema}
-use Rattle.office_tables_statements.specs.Calls.{command_of, statement_of}
+use Rattle.office_tables_statements.specs.{Schema.no_schema, Calls.command_of, Calls.statement_of}
 use Rattle.office_tables.proofs.MadeLemmas.{second_of}
-use Rattle.office_tables.specs.Found.{IsOurs}
-use Rattle.office_tables.specs.Opening.{AreOurs, AreRun}
-use Rattle.office_tables.specs.declared.{open.TheConstants.DROPS}
+use Rattle.office_tables.specs.{Found.IsOurs, Opening.AreOurs, Opening.AreRun, declared.open.TheConstants.DROPS}
+use Rattle.sqlite_ast.specs.declared.Statement.TheVariants as written
 
 -- ---- what such a text means
 

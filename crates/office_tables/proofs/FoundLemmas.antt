@@ -1,25 +1,20 @@
 -- What rows tell of the version.
 use Rattle.std.proofs.Common.{◌≡◌, ◌≢◌, ◌==◌, length, true, cond, List, [], ◌∷◌, None, Some, Result, Ok, Err, Vec, ℤ, pos, ap, ◌∙◌}
 use Rattle.std.proofs.lemmas.{Bool.eqb-true, Bool.false_from_ne_true, List.nil_from_length}
-use Rattle.std.specs.{FinMap.get-empty, FinMap.get-insert, Ordering.is_eq}
-use Rattle.sqlite.specs.{Order.Row, Order.column, declared.types.Value.TheVariants.Int, declared.types.Value.Value}
-use Rattle.office_tables_shelf.specs.Cells.{Cell, number, cells_cmp}
+use Rattle.std.specs.{FinMap.get-empty, FinMap.get-insert, Ordering.is_eq, declared.alloc.Global.Global}
+use Rattle.sqlite.specs.{Order.Row, Order.column, declared.types.Value.TheVariants.Int, declared.types.Value.Value, Tree.Trees}
+use Rattle.office_tables_shelf.specs.{Cells.Cell, Cells.number, Cells.cells_cmp, Content.no_content, declared.rows.Table.Table}
 use Rattle.office_tables_shelf.proofs.CellLemmas.{cells_exact, cells_total, tied}
-use Rattle.office_tables_statements.specs.Layout as layout
 use Rattle.office_tables_statements.specs.Stored.{cell_of, cells_at, rows_in}
 use Rattle.office_tables_statements.proofs.ContentLemmas.{tie_self}
 use Rattle.office_tables_sql.specs.Version.{version_of}
-use Rattle.std.specs.declared.alloc.Global.{Global}
-use Rattle.sqlite.specs.Tree.{Trees}
 use Rattle.sqlite_catalog.specs.Listing.{AreListed}
 use Rattle.sqlite_schema.specs.declared.schema.Schema.{Schema}
 use Rattle.sqlite_trees.specs.Objects.{catalog_tree}
-use Rattle.office_tables_shelf.specs.Content.{no_content}
-use Rattle.office_tables_shelf.specs.declared.rows.Table.{Table}
-use Rattle.office_tables.specs.{Moved.all_put, Moved.rows_named, Opening.Finds, Opening.FindsIn}
-use Rattle.office_tables.specs.declared.{open.OpenFault.OpenFault}
-use Rattle.office_tables.specs.declared.open.OpenFault.TheVariants as fault
+use Rattle.office_tables.specs.{Moved.all_put, Moved.rows_named, Opening.Finds, Opening.FindsIn, declared.open.OpenFault.OpenFault}
 use Rattle.office_tables.proofs.MovedLemmas.{moved_whole}
+use Rattle.office_tables_statements.specs.Layout as layout
+use Rattle.office_tables.specs.declared.open.OpenFault.TheVariants as fault
 
 -- ---- the number under 1, which the first row has or a later one
 

@@ -7,17 +7,14 @@ use Rattle.sqlite_catalog.specs.Change.{created, next_tree, KeepsRows}
 use Rattle.sqlite_resolve.specs.Compile.{table_defined_by}
 use Rattle.sqlite_schema.specs.declared.schema.{Schema.Schema, Table.Table}
 use Rattle.sqlite_tied.specs.Compute.{everything}
-use Rattle.sqlite_trees.specs.declared.store.Shape.TheVariants as shape
 use Rattle.sqlite_trees.specs.{declared.store.Store.Ghosts}
 use Rattle.sqlite_trees.proofs.ListLemmas.{all_both, all_weaker}
 use Rattle.office_tables_shelf.proofs.ListLemmas.{all_more}
 use Rattle.office_tables_shelf.specs.Content.{no_content}
-use Rattle.office_tables_statements.specs.Calls.{IsReady, command_of, statement_of}
-use Rattle.office_tables_shelf.specs.declared.rows.Table.TheVariants as table
-use Rattle.office_tables_statements.specs.Tables.{layout_at}
-use Rattle.office_tables_statements.specs.Stored.{content_now, rows_in}
-use Rattle.office_tables_statements.specs.{Schema.no_schema, Schema.office_schema, declared.schema.TheConstants.CREATES}
+use Rattle.office_tables_statements.specs.{Calls.IsReady, Calls.command_of, Calls.statement_of, Tables.layout_at, Stored.content_now, Stored.rows_in, Schema.no_schema, Schema.office_schema, declared.schema.TheConstants.CREATES}
 use Rattle.office_tables.specs.{Opening.AreRun}
+use Rattle.sqlite_trees.specs.declared.store.Shape.TheVariants as shape
+use Rattle.office_tables_shelf.specs.declared.rows.Table.TheVariants as table
 
 -- in a transaction over tables without a row
 pub record IsOver (s : State) (schema : Schema) : Type 0 where

@@ -2,30 +2,23 @@
 use Rattle.std.proofs.Common.{◌≡◌, ◌≢◌, inl, inr, ℕ, ◌-◌, List, [], ◌∷◌, ◌++◌, length, map, None, Some, Option, pos, Result, Ok, Err, IsTrue, refl, sym, ap, subst, subst₂, ◌∙◌, arith, length-append}
 use Rattle.std.specs.{FinMap.entries, Prelude.IsErrAnd}
 use Rattle.std.proofs.lemmas.Bool.{cases_Bool}
-use Rattle.sqlite.specs.{Order.Row, Order.column, Tree.Trees, Effect.Database, Held.Held, Held.state}
-use Rattle.sqlite.specs.State.{State, HasCleanDisk, Survives}
+use Rattle.sqlite.specs.{Order.Row, Order.column, Tree.Trees, Effect.Database, Held.Held, Held.state, State.State, State.HasCleanDisk, State.Survives}
 use Rattle.sqlite.proofs.StateLemmas.{survives_then}
 use Rattle.sqlite_tied.specs.Compute.{everything}
 use Rattle.sqlite_trees.specs.declared.store.Store.{Ghosts}
 use Rattle.signal_records.proofs.RowLaws.{are_version_1}
-use Rattle.signal_records.specs.{ChangedRows.left_by, Row.key_of, Within.IsChangeWithin, Within.IsRowWithin, Within.version_1_limits}
-use Rattle.signal_records.specs.declared.record.{Change.Change, Change.TheVariants.Put, Change.TheVariants.Remove, Row.Row as TimingRow}
-use Rattle.office_tables_shelf.specs.{Cells.Cell, Cells.null, Cells.number, Cells.text, Change.changed, Change.changed_by, Content.Content}
+use Rattle.signal_records.specs.{ChangedRows.left_by, Row.key_of, Within.IsChangeWithin, Within.IsRowWithin, Within.version_1_limits, declared.record.Change.Change, declared.record.Change.TheVariants.Put, declared.record.Change.TheVariants.Remove, declared.record.Row.Row as TimingRow}
+use Rattle.office_tables_shelf.specs.{Cells.Cell, Cells.null, Cells.number, Cells.text, Change.changed, Change.changed_by, Content.Content, declared.rows.RowChange.RowChange}
 use Rattle.office_tables_shelf.specs.Rows.{body_in, draft_key, left_columns_in, timing_key}
-use Rattle.office_tables_shelf.specs.declared.rows.{RowChange.RowChange}
-use Rattle.office_tables_shelf.specs.declared.rows.Table.TheVariants as table
 use Rattle.office_tables_shelf.proofs.RowLemmas.{same_row}
-use Rattle.office_tables_statements.specs.Calls.{IsHonest, IsOffice, Keeps}
-use Rattle.office_tables_statements.specs.{Listed.shown_key, Stored.cell_of, Stored.content_now, Stored.content_of, Tables.IsListText, Tables.columns_shown, Tables.key_shown, Tables.width_of}
+use Rattle.office_tables_statements.specs.{Calls.IsHonest, Calls.IsOffice, Calls.Keeps, Listed.shown_key, Stored.cell_of, Stored.content_now, Stored.content_of, Tables.IsListText, Tables.columns_shown, Tables.key_shown, Tables.width_of}
 use Rattle.office_tables_statements.proofs.CallLemmas.{survives_on}
 use Rattle.office_tables_sql.specs.Version.{Completes, version_in, first_version}
-use Rattle.office_tables.specs.Opening.{WritesToday}
+use Rattle.office_tables.specs.{Opening.WritesToday, Migration.IsMigrated, Migrate.IsAnew, Migrate.MayBecome, Migrate.Migrates, declared.open.OpenFault.OpenFault, declared.rewritten.Migrated.Migrated, declared.rewritten.Spelled.Spelled, declared.rewritten.Spelled.TheVariants.Timing, declared.rewritten.Spelled.TheVariants.Draft, declared.rewritten.TheConstants.TIMING, declared.rewritten.TheConstants.DRAFT}
 use Rattle.office_tables.specs.Rewritten.{IsFormer, Kept, Puts, former_columns, has_ped, kept_key, put_again, puts, table_of}
-use Rattle.office_tables.specs.Migration.{IsMigrated}
-use Rattle.office_tables.specs.Migrate.{IsAnew, MayBecome, Migrates}
-use Rattle.office_tables.specs.declared.{open.OpenFault.OpenFault, rewritten.Migrated.Migrated, rewritten.Spelled.Spelled, rewritten.Spelled.TheVariants.Timing, rewritten.Spelled.TheVariants.Draft, rewritten.TheConstants.TIMING, rewritten.TheConstants.DRAFT}
-use Rattle.office_tables.specs.declared.open.OpenFault.TheVariants as fault
 use Rattle.office_tables.proofs.Migration.{migrated}
+use Rattle.office_tables_shelf.specs.declared.rows.Table.TheVariants as table
+use Rattle.office_tables.specs.declared.open.OpenFault.TheVariants as fault
 
 changed_after : (tables : Content) (first second : List RowChange) → changed_by tables (first ++ second) ≡ changed_by (changed_by tables first) second
 changed_after tables [] second = refl

@@ -1,32 +1,26 @@
 -- The tables after the rows were put in their place, and the office that they stand for.
 use Rattle.std.proofs.Common.{◌≡◌, ◌⊎◌, inl, inr, ℕ, suc, true, false, T, List, [], ◌∷◌, map, find, length, cond, if◌then◌else◌, Option, Some, None, option_map, refl, sym, ap, subst, ◌∙◌, arith, true≢false, Bool, rules}
 use Rattle.std.proofs.{lemmas.Option.IfSome_then, lemmas.Bool.cases_Bool}
-use Rattle.std.specs.FinMap as finite
 use Rattle.std.specs.FinMap.{get, insert, entries, entries_sorted, get-entries, get-insert, get-empty, same_map, is_sorted}
 use Rattle.std.specs.{List.AllByRecursion, List.list_all, Ordering.is_eq, FinMap.Entries.below_all, Prelude.IfSome, Prelude.IsTrue}
 use Rattle.sqlite_rules.proofs.ListLemmas.{all_has, has_found}
-use Rattle.signal_records.specs.{PhaseList.is_phase_list, Row.key_of, Within.current_limits, Within.version_1_limits, Within.IsAnyPedWithin, Within.IsRowWithin, Within.IsKeyWithin, Within.IsChangeWithin, Key.key_cmp, declared.key.Key.Key, declared.limits.Limits.Limits, declared.record.Change.Change, declared.record.Change.TheVariants.Put, declared.record.Change.TheVariants.Remove, declared.record.Ped.Ped, declared.record.Phase.Phase}
-use Rattle.signal_records.specs.declared.record.Row.{Row}
-use Rattle.signal_records.specs.TimingSet.{Rows as Set}
-use Rattle.signal_records.specs.declared.key.Key.TheVariants as key
-use Rattle.signal_records.specs.declared.record.Row.TheVariants as row
+use Rattle.signal_records.specs.{PhaseList.is_phase_list, Row.key_of, Within.current_limits, Within.version_1_limits, Within.IsAnyPedWithin, Within.IsRowWithin, Within.IsKeyWithin, Within.IsChangeWithin, Key.key_cmp, declared.key.Key.Key, declared.limits.Limits.Limits, declared.record.Change.Change, declared.record.Change.TheVariants.Put, declared.record.Change.TheVariants.Remove, declared.record.Ped.Ped, declared.record.Phase.Phase, declared.record.Row.Row, TimingSet.Rows as Set, ChangedRows.left_by, ChangedRows.changed_key}
 use Rattle.signal_records.proofs.{Lists.is_phase_list_wider, RowLaws.are_version_1}
 use Rattle.signal_rules.specs.{BeforeLead.HasNoLead, BeforeLead.violations_before_lead, Lookup.the_phase, Violations.violations_of}
 use Rattle.signal_rules.proofs.BeforeLead.{same_violations}
 use Rattle.draft_core.specs.DraftRows.{Said, silent, leaves, removes}
-use Rattle.signal_records.specs.ChangedRows.{left_by, changed_key}
-use Rattle.office_tables_shelf.specs.{Cells.Cell, Cells.text, Cells.TableRows, Cells.cells_cmp, Cells.rows_by, Change.changed, Change.changed_by, Content.Content, Rows.timing_key, Rows.timing_columns_in, Rows.left_columns_in, Rows.body_in}
-use Rattle.office_tables_shelf.specs.RegisterStands.{RegisterStands}
+use Rattle.office_tables_shelf.specs.{Cells.Cell, Cells.text, Cells.TableRows, Cells.cells_cmp, Cells.rows_by, Change.changed, Change.changed_by, Content.Content, Rows.timing_key, Rows.timing_columns_in, Rows.left_columns_in, Rows.body_in, RegisterStands.RegisterStands, Content.put_in, Content.rows_at, Content.with_rows}
 use Rattle.office_machine.specs.Office.{Office, Intersection, side_at, side_of, AreRecordsIn, IsSoundIntersectionIn, IsSoundDraftIn, today, version_1}
 use Rattle.office_tables_decisions.specs.StandFor.{IsTimingKey, HasTimingKeys, IsSaidIn, said_columns_in, StandForSoundIn}
 use Rattle.office_tables_shelf.proofs.CellLemmas.{cells_total, cells_exact, is_under, find_entry, get_by, tied}
 use Rattle.office_tables_shelf.proofs.{ListLemmas.less, ListLemmas.parts, RowLemmas.same_left}
-use Rattle.office_tables_shelf.specs.Content.{put_in, rows_at, with_rows}
 use Rattle.office_tables_statements.specs.Tables.{stored_for}
 use Rattle.office_tables.specs.Rewritten.{AreKept, IsFormer, Kept, former_columns, has_ped, kept_key, put_again, puts, table_of}
-use Rattle.office_tables.specs.Migration.{kept_columns, IsMigrated, StandAnew}
-use Rattle.office_tables.specs.declared.rewritten.{Migrated.Migrated, Spelled.Spelled, Spelled.TheVariants.Timing, Spelled.TheVariants.Draft}
+use Rattle.office_tables.specs.{Migration.kept_columns, Migration.IsMigrated, Migration.StandAnew, declared.rewritten.Migrated.Migrated, declared.rewritten.Spelled.Spelled, declared.rewritten.Spelled.TheVariants.Timing, declared.rewritten.Spelled.TheVariants.Draft}
 use Rattle.office_tables.proofs.MovedLemmas.{its_rows, last_rows, own_rows}
+use Rattle.std.specs.FinMap as finite
+use Rattle.signal_records.specs.declared.key.Key.TheVariants as key
+use Rattle.signal_records.specs.declared.record.Row.TheVariants as row
 
 -- ---- the rows that are put
 

@@ -7,18 +7,13 @@ use Rattle.sqlite_schema.specs.{Names.same_name, declared.schema.Schema.Schema, 
 use Rattle.sqlite_tied.specs.Compute.{everything}
 use Rattle.sqlite_trees.specs.Objects.{catalog_tree, number_in}
 use Rattle.sqlite_value.specs.Order.{bytes}
-use Rattle.office_tables_shelf.specs.Cells.{TableRows, number}
-use Rattle.office_tables_shelf.specs.Content.{Content, no_content}
-use Rattle.office_tables_shelf.specs.declared.rows.Table.{Table}
-use Rattle.office_tables_statements.specs.Schema.{office_schema}
-use Rattle.office_tables_statements.specs.Stored.{cells_at, content_of, rows_in}
+use Rattle.office_tables_shelf.specs.{Cells.TableRows, Cells.number, Content.Content, Content.no_content, declared.rows.Table.Table}
+use Rattle.office_tables_statements.specs.{Schema.office_schema, Stored.cells_at, Stored.content_of, Stored.rows_in}
 use Rattle.office_tables_statements.specs.Tables.{layout_at, rows_at, schema_at, with_rows}
 use Rattle.office_tables_statements.proofs.TableLemmas.{each}
 use Rattle.office_tables.specs.Moved.{Named, all_put, content_by, content_of_named, moved_from, row_put, rows_named}
-use Rattle.office_tables.specs.Found.{HasOtherVersion, HasRowsAlone, Hold}
+use Rattle.office_tables.specs.{Found.HasOtherVersion, Found.HasRowsAlone, Found.Hold, declared.found.TheConstants.KEEPER, declared.gather.TheConstants.CHILDREN_FIRST}
 use Rattle.office_tables_sql.specs.Version.{AreToday, version_of, current_version}
-use Rattle.office_tables.specs.declared.found.TheConstants.{KEEPER}
-use Rattle.office_tables.specs.declared.gather.TheConstants.{CHILDREN_FIRST}
 
 -- ---- rows that are put into a table without rows
 

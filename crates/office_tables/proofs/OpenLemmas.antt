@@ -6,15 +6,12 @@ use Rattle.sqlite.specs.{Effect.Database, Effect.IsDatabase, Held.Held, Held.sta
 use Rattle.sqlite_trees.specs.{View.doubt, View.IsQuiet, Objects.catalog_tree, declared.store.Store.Ghosts}
 use Rattle.sqlite_catalog.specs.Listing.{AreListed}
 use Rattle.office_tables_shelf.specs.Content.{Content}
-use Rattle.office_tables_statements.specs.Schema.{office_schema}
-use Rattle.office_tables_statements.specs.{Calls.IsHonest, Calls.IsOffice, Calls.Keeps, Stored.content_now, Stored.content_of}
-use Rattle.office_tables.specs.Arranged.{IsArranged, IsUnchanged}
+use Rattle.office_tables_statements.specs.{Schema.office_schema, Calls.IsHonest, Calls.IsOffice, Calls.Keeps, Stored.content_now, Stored.content_of}
+use Rattle.office_tables.specs.{Arranged.IsArranged, Arranged.IsUnchanged, SqlShelf.SqlView, declared.open.OpenFault.OpenFault}
 use Rattle.office_tables.specs.Found.{Hold, MayBeMade, TakesOver, Tells}
 use Rattle.office_tables.specs.Opening.{IsAsFound, IsCheckedAgain, IsCleanStore, IsOpenIfClean, IsPrepared, IsRefused, IsTaken, Opens as OpensShelf, Prepares, WritesToday, store_left}
 use Rattle.office_tables.proofs.{ArrangedLemmas.tables_rise, MovedLemmas.office_hold, VersionLemmas.are_today}
-use Rattle.office_tables.specs.{SqlShelf.SqlView}
 use Rattle.office_tables_sql.specs.{Version.AreToday, Version.Completes, Version.version_in, Version.current_version}
-use Rattle.office_tables.specs.declared.open.OpenFault.{OpenFault}
 use Rattle.office_tables.specs.declared.open.OpenFault.TheVariants as fault
 
 -- the tables of the office in a database that holds what it lists

@@ -1,20 +1,17 @@
 -- Rows that are put into the tables of the office as they were stored.
 use Rattle.std.proofs.Common.{◌≡◌, ℕ, true, true≢false, ◌&&◌, List, [], ◌∷◌, ◌++◌, map, length, refl, sym, ap, subst, ◌∙◌}
 use Rattle.std.proofs.lemmas.Bool.{and_parts, and_from}
-use Rattle.sqlite.specs.{Order.Row, Order.column, State.State}
-use Rattle.sqlite.specs.declared.types.Value.{Value, TheVariants.Null, TheVariants.Int, TheVariants.Real, TheVariants.Text, TheVariants.Blob}
-use Rattle.sqlite.specs.Values.{bound_value}
+use Rattle.sqlite.specs.{Order.Row, Order.column, State.State, declared.types.Value.Value, declared.types.Value.TheVariants.Null, declared.types.Value.TheVariants.Int, declared.types.Value.TheVariants.Real, declared.types.Value.TheVariants.Text, declared.types.Value.TheVariants.Blob, Values.bound_value}
 use Rattle.sqlite_schema.specs.declared.{schema.Column.Column, schema.Kind.Kind}
-use Rattle.sqlite_schema.specs.declared.schema.Kind.TheVariants as kind
 use Rattle.office_tables_shelf.specs.Cells.{Cell, null, number, text, odd}
-use Rattle.office_tables_shelf.specs.Content.{Content}
-use Rattle.office_tables_shelf.specs.declared.rows.Table.{Table}
-use Rattle.office_tables_shelf.specs.declared.rows.Table.TheVariants as table
+use Rattle.office_tables_shelf.specs.{Content.Content, declared.rows.Table.Table}
 use Rattle.office_tables_statements.specs.{Layout.values_at, Calls.IsReady, Calls.IsTurned, Calls.Ran}
 use Rattle.office_tables_statements.specs.Stored.{are_sound, cell_of, cells, cells_at, content_now, is_sound}
 use Rattle.office_tables_statements.specs.Tables.{IsInsertText, layout_at, places_of, schema_at, suit, suits_kind, takes, value_of, values_of}
 use Rattle.office_tables_statements.proofs.{StoredPuts.inserts, TableLemmas.each}
 use Rattle.office_tables.specs.Moved.{all_put, row_put}
+use Rattle.sqlite_schema.specs.declared.schema.Kind.TheVariants as kind
+use Rattle.office_tables_shelf.specs.declared.rows.Table.TheVariants as table
 
 -- ---- values and their cells
 

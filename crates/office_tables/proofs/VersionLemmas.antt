@@ -1,21 +1,17 @@
 -- The stored version and its statements.
 use Rattle.std.proofs.Common.{◌≡◌, ℕ, [], ◌∷◌, length, codes, refl, sym, ap, subst, ◌∙◌, cond, Option, None, Some, option_map, pos, ℤ, arith}
 use Rattle.std.specs.{Option.option_to_list, FinMap.get, FinMap.insert, FinMap.get-insert}
-use Rattle.sqlite.specs.{Command.TheVariants.Select, Command.TheVariants.Insert, Command.TheVariants.Delete, Effect.Database, Effect.IsDatabase, Order.Row, Order.column, Cast.cast_row, Source.Source, State.State, Source.TheVariants.Values, Term.lit, Term.col, View.IsShaped}
-use Rattle.sqlite.specs.declared.types.Value.TheVariants.{Null, Int}
+use Rattle.sqlite.specs.{Command.TheVariants.Select, Command.TheVariants.Insert, Command.TheVariants.Delete, Effect.Database, Effect.IsDatabase, Order.Row, Order.column, Cast.cast_row, Source.Source, State.State, Source.TheVariants.Values, Term.lit, Term.col, View.IsShaped, declared.types.Value.TheVariants.Null, declared.types.Value.TheVariants.Int}
 use Rattle.sqlite_tied.specs.Compute.{everything}
-use Rattle.office_tables_statements.specs.Layout as layout
 use Rattle.office_tables_shelf.specs.{Cells.number}
-use Rattle.office_tables_statements.specs.{Stored.rows_in, Stored.cell_of, Stored.cells, Stored.rows_stored, Stored.content_now, Calls.Means, Calls.Reads, Calls.IsReady, Calls.Ran, Tables.found_by, Layout.office_version}
-use Rattle.office_tables_statements.specs.Schema.{office_schema, version_table}
+use Rattle.office_tables_statements.specs.{Stored.rows_in, Stored.cell_of, Stored.cells, Stored.rows_stored, Stored.content_now, Calls.Means, Calls.Reads, Calls.IsReady, Calls.Ran, Tables.found_by, Layout.office_version, Schema.office_schema, Schema.version_table}
 use Rattle.office_tables_sql.specs.Version.{AreToday, version_in, current_version}
-use Rattle.office_tables.specs.Opening.{IsMade}
-use Rattle.office_tables_statements.proofs.QueryLemmas.{AreShaped, found_by_key, has_width}
+use Rattle.office_tables.specs.{Opening.IsMade, declared.version.TheConstants.FIND as FIND_VERSION, declared.version.TheConstants.DROP as DROP_VERSION, declared.version.TheConstants.PUT as PUT_VERSION}
+use Rattle.office_tables_statements.proofs.{QueryLemmas.AreShaped, QueryLemmas.found_by_key, QueryLemmas.has_width, StoredLemmas.get_columns, StoredLemmas.sound_rowids, Casts.cast_int, Casts.cast_null, RemoveLemmas.remove_keyed, ContentLemmas.tie_self, ContentLemmas.put_at, ContentLemmas.free_rowid, TableLemmas.apart, TableLemmas.none_in}
 use Rattle.office_tables_statements.proofs.WriteLemmas.{Added, adds, IsIdle, wrote}
-use Rattle.office_tables_statements.proofs.{StoredLemmas.get_columns, StoredLemmas.sound_rowids, Casts.cast_int, Casts.cast_null, RemoveLemmas.remove_keyed, ContentLemmas.tie_self, ContentLemmas.put_at, ContentLemmas.free_rowid, TableLemmas.apart, TableLemmas.none_in}
-use Rattle.sqlite_trees.specs.declared.store.Shape.TheVariants as shape
 use Rattle.office_tables_shelf.proofs.CellLemmas.{cells_total}
-use Rattle.office_tables.specs.declared.version.TheConstants.{FIND as FIND_VERSION, DROP as DROP_VERSION, PUT as PUT_VERSION}
+use Rattle.office_tables_statements.specs.Layout as layout
+use Rattle.sqlite_trees.specs.declared.store.Shape.TheVariants as shape
 
 pub find_version_is : Means FIND_VERSION.now (Select (record { lets = []; body = found_by office_version office_version.columns }) (codes "version" ∷ []))
 unfolding everything

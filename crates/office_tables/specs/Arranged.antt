@@ -1,11 +1,7 @@
 -- When each tree of a database holds what the database's list of objects says that it holds.
 use Rattle.std.specs.Prelude.{◌≡◌, ℕ, ◌<◌}
-use Rattle.sqlite.specs.State.{State, HasCleanDisk}
-use Rattle.sqlite.specs.Tree.{Trees}
-use Rattle.sqlite.specs.View.{View, IsShaped}
-use Rattle.sqlite_trees.specs.declared.store.Shape.{Shape}
-use Rattle.sqlite_trees.specs.declared.store.Shape.TheVariants.{Table}
-use Rattle.sqlite_trees.specs.Objects.{catalog_tree, IsListed}
+use Rattle.sqlite.specs.{State.State, State.HasCleanDisk, Tree.Trees, View.View, View.IsShaped}
+use Rattle.sqlite_trees.specs.{declared.store.Shape.Shape, declared.store.Shape.TheVariants.Table, Objects.catalog_tree, Objects.IsListed}
 
 -- the list of objects gives each tree its shape, and the rows of each tree are in the order of its
 -- shape

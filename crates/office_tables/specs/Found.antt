@@ -1,25 +1,15 @@
 -- What trees hold of an office whatever the layout of its tables: in another order, without STRICT, or with some of them missing.
 use Rattle.std.specs.Prelude.{◌≡◌, ◌≢◌, ◌⊎◌, ℕ, ℤ, pos, List, [], ◌∷◌, map, Option, None, Some, true}
 use Rattle.std.specs.List.{AllByRecursion}
-use Rattle.sqlite.specs.Order.{Row}
-use Rattle.sqlite.specs.Tree.{Trees}
+use Rattle.sqlite.specs.{Order.Row, Tree.Trees}
 use Rattle.sqlite_catalog.specs.Listing.{AreListed}
-use Rattle.sqlite_schema.specs.Names.{same_name}
-use Rattle.sqlite_schema.specs.declared.schema.Column.{Column}
-use Rattle.sqlite_schema.specs.declared.schema.Schema.{Schema}
-use Rattle.sqlite_schema.specs.declared.schema.Table.{Table as SqlTable}
+use Rattle.sqlite_schema.specs.{Names.same_name, declared.schema.Column.Column, declared.schema.Schema.Schema, declared.schema.Table.Table as SqlTable}
 use Rattle.sqlite_trees.specs.Objects.{catalog_tree}
-use Rattle.office_tables_statements.specs.Schema.{IsNameAmong, IsOffices, office_schema}
-use Rattle.office_tables_shelf.specs.Cells.{number}
-use Rattle.office_tables_shelf.specs.Content.{Content}
-use Rattle.office_tables_statements.specs.Stored.{content_of}
-use Rattle.office_tables.specs.Moved.{content_by, moved_from, rows_named}
-use Rattle.office_tables_shelf.specs.declared.rows.Table.{Table}
+use Rattle.office_tables_statements.specs.{Schema.IsNameAmong, Schema.IsOffices, Schema.office_schema, Stored.content_of}
+use Rattle.office_tables_shelf.specs.{Cells.number, Content.Content, declared.rows.Table.Table}
+use Rattle.office_tables.specs.{Moved.content_by, Moved.moved_from, Moved.rows_named, declared.open.OpenFault.OpenFault, declared.found.TheConstants.KEEPER, declared.found.TheConstants.COLUMNS, declared.gather.TheConstants.CHILDREN_FIRST}
 use Rattle.office_tables_sql.specs.Version.{AreToday, version_in, version_of, current_version}
-use Rattle.office_tables.specs.declared.open.OpenFault.{OpenFault}
 use Rattle.office_tables.specs.declared.open.OpenFault.TheVariants as fault
-use Rattle.office_tables.specs.declared.found.TheConstants.{KEEPER, COLUMNS}
-use Rattle.office_tables.specs.declared.gather.TheConstants.{CHILDREN_FIRST}
 
 -- the name is that of one of the office's nine tables
 abbrev pub IsOurs : List ℕ → Type 0

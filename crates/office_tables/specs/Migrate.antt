@@ -1,27 +1,17 @@
 -- What bringing version 1 of the tables to today's version makes of a database, and what it leaves
 -- where it refuses.
 use Rattle.std.specs.Prelude.{◌≡◌, ◌≢◌, ◌⊎◌, ℤ, pos, true, false, List, [], ◌∷◌, None, Some, Result, Err, IfOk}
-use Rattle.sqlite.specs.declared.types.Value.TheVariants.{Int}
-use Rattle.sqlite.specs.Held.{Held, state}
-use Rattle.sqlite.specs.Order.{Row, column}
+use Rattle.sqlite.specs.{declared.types.Value.TheVariants.Int, Held.Held, Held.state, Order.Row, Order.column, Tree.Trees}
 use Rattle.sqlite.specs.State.{State, HasCleanDisk, Shown, Survives}
-use Rattle.sqlite.specs.Tree.{Trees}
 use Rattle.sqlite_trees.specs.declared.store.Store.{Ghosts}
 use Rattle.sqlite_schema.specs.Names.{table_named}
 use Rattle.office_machine.specs.Office.{Office, version_1}
 use Rattle.office_tables_decisions.specs.StandFor.{StandForSoundIn}
-use Rattle.office_tables_statements.specs.Calls.{IsHonest, StaysOpen}
-use Rattle.office_tables_statements.specs.Stored.{content_of}
-use Rattle.office_tables.specs.Rewritten.{HasDamage}
-use Rattle.office_tables.specs.Migration.{IsMigrated}
-use Rattle.office_tables.specs.declared.found.TheConstants.{KEEPER}
-use Rattle.office_tables.specs.declared.rewritten.Migrated.{Migrated}
-use Rattle.office_tables.specs.declared.rewritten.Spelled.{Spelled}
-use Rattle.office_tables.specs.declared.open.OpenFault.{OpenFault}
-use Rattle.office_tables.specs.declared.open.OpenFault.TheVariants as fault
-use Rattle.office_tables.specs.declared.version.TheConstants.{FIND}
+use Rattle.office_tables_statements.specs.{Calls.IsHonest, Calls.StaysOpen, Stored.content_of}
+use Rattle.office_tables.specs.{Rewritten.HasDamage, Migration.IsMigrated, declared.found.TheConstants.KEEPER, declared.rewritten.Migrated.Migrated, declared.rewritten.Spelled.Spelled, declared.open.OpenFault.OpenFault, declared.version.TheConstants.FIND}
 use Rattle.office_tables_sql.specs.Promises.{KeepsCommitted, Settles}
 use Rattle.office_tables_sql.specs.Version.{AreToday, version_in, current_version, first_version}
+use Rattle.office_tables.specs.declared.open.OpenFault.TheVariants as fault
 
 -- version 1 was stored, each of its rows is now spelled as today, under today's version, and those
 -- that were written anew are counted

@@ -2,16 +2,11 @@
 use Rattle.std.specs.Prelude.{◌≡◌, ℕ, List, length, IfSome}
 use Rattle.std.specs.FinMap.{entries}
 use Rattle.signal_records.specs.TimingSet.{Rows as Set}
-use Rattle.signal_rules.specs.Violations.{violations_of}
-use Rattle.signal_rules.specs.BeforeLead.{violations_before_lead}
-use Rattle.office_tables_shelf.specs.Cells.{Cell, rows_by}
-use Rattle.office_tables_shelf.specs.Content.{Content, rows_at}
+use Rattle.signal_rules.specs.{Violations.violations_of, BeforeLead.violations_before_lead}
+use Rattle.office_tables_shelf.specs.{Cells.Cell, Cells.rows_by, Content.Content, Content.rows_at, Rows.draft_columns}
 use Rattle.office_machine.specs.Office.{Office, side_at}
-use Rattle.office_tables_shelf.specs.Rows.{draft_columns}
 use Rattle.office_tables_decisions.specs.StandFor.{StandForSound}
-use Rattle.office_tables.specs.declared.rewritten.Migrated.{Migrated}
-use Rattle.office_tables.specs.declared.rewritten.Spelled.{Spelled}
-use Rattle.office_tables.specs.declared.rewritten.Spelled.TheVariants.{Timing, Draft}
+use Rattle.office_tables.specs.declared.rewritten.{Migrated.Migrated, Spelled.Spelled, Spelled.TheVariants.Timing, Spelled.TheVariants.Draft}
 use Rattle.office_tables.specs.Rewritten.{AreKept, Kept, kept_key, puts, table_of}
 
 -- the cells of a row or a removal beside its key, as today's version spells them

@@ -1,14 +1,9 @@
 -- Rows that are read from tables by the names of these, and put into the office's tables again.
 use Rattle.std.specs.Prelude.{List, [], ◌∷◌, ◌++◌, map, if◌then◌else◌, ℕ}
-use Rattle.sqlite_schema.specs.Names.{same_name}
-use Rattle.sqlite_schema.specs.declared.schema.Table.{Table as SqlTable}
-use Rattle.sqlite.specs.Order.{Row}
-use Rattle.sqlite.specs.Tree.{Trees}
-use Rattle.office_tables_shelf.specs.Cells.{TableRows}
-use Rattle.office_tables_shelf.specs.Content.{Content, no_content, with_rows}
-use Rattle.office_tables_shelf.specs.declared.rows.Table.{Table}
-use Rattle.office_tables_statements.specs.Stored.{cells_at, rows_in}
-use Rattle.office_tables_statements.specs.Tables.{layout_at, schema_at, put_in}
+use Rattle.sqlite_schema.specs.{Names.same_name, declared.schema.Table.Table as SqlTable}
+use Rattle.sqlite.specs.{Order.Row, Tree.Trees}
+use Rattle.office_tables_shelf.specs.{Cells.TableRows, Content.Content, Content.no_content, Content.with_rows, declared.rows.Table.Table}
+use Rattle.office_tables_statements.specs.{Stored.cells_at, Stored.rows_in, Tables.layout_at, Tables.schema_at, Tables.put_in}
 use Rattle.office_tables.specs.declared.gather.TheConstants.{CHILDREN_FIRST}
 
 -- the rows of each table, by the table's name

@@ -1,31 +1,16 @@
 -- What an opening of the tables makes of a database, and what it leaves where it refuses.
 use Rattle.std.specs.Prelude.{◌≡◌, ◌⊎◌, ◌≤◌, ℕ, false, List, [], ◌∷◌, None, Some, Result, Ok, Err, IfOk, IsTrue, OnOk, MatchResult, Vec}
-use Rattle.std.specs.List.{AllByRecursion}
-use Rattle.std.specs.declared.alloc.Global.{Global}
-use Rattle.sqlite.specs.Effect.{Database, IsDatabase}
-use Rattle.sqlite.specs.Held.{Held, state}
-use Rattle.sqlite.specs.Order.{Row}
+use Rattle.std.specs.{List.AllByRecursion, declared.alloc.Global.Global}
+use Rattle.sqlite.specs.{Effect.Database, Effect.IsDatabase, Held.Held, Held.state, Order.Row, Steps.IsFresh, Tree.Trees, declared.transaction.Transaction.Transaction}
 use Rattle.sqlite.specs.State.{State, HasCleanDisk, ExecutesInside, Survives}
-use Rattle.sqlite.specs.Steps.{IsFresh}
-use Rattle.sqlite.specs.Tree.{Trees}
-use Rattle.sqlite.specs.declared.transaction.Transaction.{Transaction}
-use Rattle.sqlite_trees.specs.View.{doubt, IsClean}
-use Rattle.sqlite_trees.specs.declared.store.Store.{Ghosts}
-use Rattle.office_tables_shelf.specs.Content.{Content, no_content}
-use Rattle.office_tables_shelf.specs.Counts.{no_writes}
-use Rattle.office_tables_shelf.specs.declared.rows.Table.{Table}
+use Rattle.sqlite_trees.specs.{View.doubt, View.IsClean, declared.store.Store.Ghosts}
+use Rattle.office_tables_shelf.specs.{Content.Content, Content.no_content, Counts.no_writes, declared.rows.Table.Table}
 use Rattle.office_tables_statements.specs.Calls.{IsHonest, IsOffice, IsReady, StandsOn, StaysOpen}
 use Rattle.office_tables_statements.specs.Stored.{content_now, content_of}
-use Rattle.office_tables.specs.Arranged.{IsArranged}
-use Rattle.office_tables.specs.SqlShelf.{IsCurrent, SqlView}
+use Rattle.office_tables.specs.{Arranged.IsArranged, SqlShelf.IsCurrent, SqlShelf.SqlView, Moved.all_put, Moved.moved_from, Moved.rows_named, declared.found.TheConstants.KEEPER, declared.gather.TheConstants.CHILDREN_FIRST, declared.open.OpenFault.OpenFault}
 use Rattle.office_tables.specs.Found.{Hold, IsOurs, MayBeMade, TakesOver, Tell, Tells}
-use Rattle.office_tables.specs.Moved.{all_put, moved_from, rows_named}
-use Rattle.office_tables.specs.declared.found.TheConstants.{KEEPER}
-use Rattle.office_tables.specs.declared.gather.TheConstants.{CHILDREN_FIRST}
 use Rattle.sqlite_schema.specs.declared.schema.Table.{Table as SqlTable}
-use Rattle.office_tables_sql.specs.Promises.{KeepsCommitted, WasHonest}
-use Rattle.office_tables_sql.specs.Version.{Completes}
-use Rattle.office_tables.specs.declared.open.OpenFault.{OpenFault}
+use Rattle.office_tables_sql.specs.{Promises.KeepsCommitted, Promises.WasHonest, Version.Completes}
 
 -- no failure has shut the database, if the disk has returned what was written
 abbrev pub IsOpenIfClean : State → Type 0

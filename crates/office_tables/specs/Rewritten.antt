@@ -3,23 +3,12 @@ use Rattle.std.specs.Prelude.{◌≡◌, ℕ, Bool, true, false, List, [], ◌�
 use Rattle.std.specs.List.{AllByRecursion}
 use Rattle.sqlite.specs.Order.{Row as SqlRow}
 use Rattle.sqlite_rules.specs.Lists.{Has}
-use Rattle.signal_records.specs.Within.{IsChangeWithin, version_1_limits}
-use Rattle.signal_records.specs.declared.record.Row.TheVariants as row
-use Rattle.signal_records.specs.declared.record.Change.{Change}
-use Rattle.signal_records.specs.declared.record.Change.TheVariants.{Put, Remove}
-use Rattle.signal_records.specs.ChangedRows.{left_by}
-use Rattle.office_tables_shelf.specs.CabinetReads.{IsOfOne}
-use Rattle.office_tables_shelf.specs.Cells.{Cell}
-use Rattle.office_tables_shelf.specs.Content.{Content}
-use Rattle.office_tables_shelf.specs.Reads.{HasDamagedRow, IsNoRow}
-use Rattle.office_tables_shelf.specs.Rows.{draft_key, left_columns_in}
-use Rattle.office_tables_shelf.specs.declared.rows.RowChange.{RowChange}
-use Rattle.office_tables_shelf.specs.declared.rows.RowChange.TheVariants.{PutTiming, PutDraft}
-use Rattle.office_tables_shelf.specs.declared.rows.Table.{Table}
-use Rattle.office_tables_shelf.specs.declared.rows.Table.TheVariants as table
+use Rattle.signal_records.specs.{Within.IsChangeWithin, Within.version_1_limits, declared.record.Change.Change, declared.record.Change.TheVariants.Put, declared.record.Change.TheVariants.Remove, ChangedRows.left_by}
+use Rattle.office_tables_shelf.specs.{CabinetReads.IsOfOne, Cells.Cell, Content.Content, Reads.HasDamagedRow, Reads.IsNoRow, Rows.draft_key, Rows.left_columns_in, declared.rows.RowChange.RowChange, declared.rows.RowChange.TheVariants.PutTiming, declared.rows.RowChange.TheVariants.PutDraft, declared.rows.Table.Table}
 use Rattle.office_tables_statements.specs.Tables.{columns_shown, key_shown, stored_for, width_of}
-use Rattle.office_tables.specs.declared.rewritten.Spelled.{Spelled}
-use Rattle.office_tables.specs.declared.rewritten.Spelled.TheVariants.{Timing, Draft}
+use Rattle.office_tables.specs.declared.rewritten.Spelled.{Spelled, TheVariants.Timing, TheVariants.Draft}
+use Rattle.signal_records.specs.declared.record.Row.TheVariants as row
+use Rattle.office_tables_shelf.specs.declared.rows.Table.TheVariants as table
 
 -- a row or a removal of an intersection, as `timing` or `draft` keeps it
 abbrev pub Kept : Type 0

@@ -2,18 +2,14 @@
 
 ghost use Rattle.std.specs.Prelude.{◌≡◌, ◌≢◌, ◌≤◌, ◌∷◌, Some, [], map, pos, IsTrue, IfOk, IfErr, IfSome, OnOk, MatchResult};
 ghost use Rattle.std.specs.List.{AllByRecursion};
-ghost use Rattle.sqlite.specs.Held.{Held, state};
-ghost use Rattle.sqlite.specs.State.{HasCleanDisk};
-ghost use Rattle.sqlite.specs.Steps.{IsFresh};
+ghost use Rattle.sqlite.specs.{Held.Held, Held.state, State.HasCleanDisk, Steps.IsFresh};
 ghost use Rattle.sqlite_trees.specs.View.{IsClean, IsQuiet, doubt};
-ghost use Rattle.sqlite_value.specs.Value.{owned};
-ghost use Rattle.sqlite_value.specs.declared.value.Value.TheVariants.{Int};
+ghost use Rattle.sqlite_value.specs.{Value.owned, declared.value.Value.TheVariants.Int};
 ghost use Rattle.office_tables_shelf.specs.Cells.{number};
 ghost use Rattle.office_tables.specs.Arranged.{IsUnchanged};
 ghost use Rattle.office_tables.specs.Found.{IsOurs, IsVersionKeeper, KeepVersion, Tell};
 ghost use Rattle.office_tables.specs.Opening.{ChecksAgain, Finds, FindsIn, IsAsFound, IsCheckedAgain, IsTaken};
-ghost use Rattle.office_tables_sql.specs.Promises.{IsSettled};
-ghost use Rattle.office_tables_sql.specs.Version.{version_of};
+ghost use Rattle.office_tables_sql.specs.{Promises.IsSettled, Version.version_of};
 
 use crate::gather::{CHILDREN_FIRST, Moved, gather, read_named};
 use crate::open::OpenFault;

@@ -3,8 +3,7 @@
 
 ghost use Rattle.std.specs.Prelude.{◌≡◌, ◌++◌, map, IfOk, OnOk};
 ghost use Rattle.sqlite_trees.specs.View.{IsClean, IsQuiet};
-ghost use Rattle.office_tables.specs.Arranged.{IsUnchanged};
-ghost use Rattle.office_tables.specs.Moved.{rows_named, moved_from};
+ghost use Rattle.office_tables.specs.{Arranged.IsUnchanged, Moved.rows_named, Moved.moved_from};
 
 use office_tables_shelf::rows::Table;
 use office_tables_statements::tables::name_of;

@@ -1,13 +1,9 @@
 //! Version 1 of the tables brought to today's version.
 
 ghost use Rattle.std.specs.Prelude.{◌≡◌, false, IfOk, IsTrue};
-ghost use Rattle.sqlite.specs.State.{HasCleanDisk};
-ghost use Rattle.sqlite.specs.Held.{state};
-ghost use Rattle.office_tables_statements.specs.Stored.{content_now};
-ghost use Rattle.office_tables_statements.specs.Calls.{IsOffice, IsReady, StandsOn};
-ghost use Rattle.office_tables.specs.Migrate.{AreNeither, Migrates, ShowsNeither};
-ghost use Rattle.office_tables.specs.Arranged.{IsArrangedIfClean};
-ghost use Rattle.office_tables.specs.Opening.{TurnsToday, WritesToday};
+ghost use Rattle.sqlite.specs.{State.HasCleanDisk, Held.state};
+ghost use Rattle.office_tables_statements.specs.{Stored.content_now, Calls.IsOffice, Calls.IsReady, Calls.StandsOn};
+ghost use Rattle.office_tables.specs.{Migrate.AreNeither, Migrate.Migrates, Migrate.ShowsNeither, Arranged.IsArrangedIfClean, Opening.TurnsToday, Opening.WritesToday};
 ghost use Rattle.office_tables_shelf.specs.Change.{changed_by};
 
 use crate::found::KEEPER;

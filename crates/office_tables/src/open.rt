@@ -1,14 +1,12 @@
 //! Opening the tables of the office.
 
 ghost use Rattle.std.specs.Prelude.{◌≡◌, true, false, map, Ok, Err, IsTrue, OnOk};
-ghost use Rattle.sqlite.specs.State.{HasCleanDisk};
-ghost use Rattle.sqlite.specs.Held.{state};
+ghost use Rattle.sqlite.specs.{State.HasCleanDisk, Held.state};
 ghost use Rattle.office_tables_shelf.specs.Content.{no_content};
 ghost use Rattle.office_tables_statements.specs.Calls.{IsHonest, StandsOn};
-ghost use Rattle.office_tables.specs.Moved.{all_put};
+ghost use Rattle.office_tables.specs.{Moved.all_put, Arranged.IsArrangedIfClean};
 ghost use Rattle.office_tables.specs.Opening.{AreOurs, AreRun, Prepares, TurnsToday, WritesToday};
 ghost use Rattle.office_tables_sql.specs.Promises.{IsSettled};
-ghost use Rattle.office_tables.specs.Arranged.{IsArrangedIfClean};
 
 use crate::found::{has_only_ours, read_again};
 use crate::gather::Moved;

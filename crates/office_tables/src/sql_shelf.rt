@@ -1,11 +1,8 @@
 //! A shelf over the tables of the office in a database of SQL.
 
 ghost use Rattle.std.specs.Prelude.{◌≡◌, true, Ok, Err, MatchResult};
-ghost use Rattle.sqlite.specs.Files.{file_state};
-ghost use Rattle.sqlite.specs.Held.{state};
-ghost use Rattle.office_tables.specs.Arranged.{IsArrangedIfClean};
-ghost use Rattle.office_tables.specs.SqlShelf.{IsCurrent};
-ghost use Rattle.office_tables.specs.Opening.{IsOpened, IsRefused, Opens};
+ghost use Rattle.sqlite.specs.{Files.file_state, Held.state};
+ghost use Rattle.office_tables.specs.{Arranged.IsArrangedIfClean, SqlShelf.IsCurrent, Opening.IsOpened, Opening.IsRefused, Opening.Opens};
 
 use crate::found::{check_again, has_only_ours};
 use crate::open::{Left, OpenFault, prepare};
@@ -140,10 +137,8 @@ impl<D: Disk> SqlShelf<FileStore<D>> {
 }
 
 impl<S: Alter> Shelf for SqlShelf<S> {
-    ghost use Rattle.sqlite.specs.Held.{state};
-    ghost use Rattle.sqlite.specs.State.{HasCleanDisk};
-    ghost use Rattle.office_tables_statements.specs.Stored.{content_now};
-    ghost use Rattle.office_tables_statements.specs.Calls.{IsHonest};
+    ghost use Rattle.sqlite.specs.{Held.state, State.HasCleanDisk};
+    ghost use Rattle.office_tables_statements.specs.{Stored.content_now, Calls.IsHonest};
     ghost use Rattle.office_tables.specs.SqlShelf.{MayLeave};
 
     ghost content = { λ s. content_now (state S.Store s.conn) };

@@ -5,8 +5,7 @@ use Rattle.office_tables_statements.specs.{Calls.IsHonest, Calls.Keeps, Stored.c
 use Rattle.office_tables_sql.specs.Version.{Completes, first_version, version_in}
 use Rattle.office_tables.specs.{Migrate.IsAnew, declared.rewritten.Migrated.Migrated}
 use Rattle.office_tables.proofs.MigrateLemmas.{anew_by, keeps_all, lists_draft, lists_timing, unwritten, written}
-use Rattle.office_tables.proofs.migrate.spell_anew.Given.{Over}
-use Rattle.office_tables.proofs.migrate.spell_anew.Goals.{After-write_anew}
+use Rattle.office_tables.proofs.migrate.spell_anew.{Given.Over, Goals.After-write_anew}
 use Rattle.office_tables.proofs.migrate.spell_anew.Goals as goal
 
 pub put_former-requires-clause-query : goal.put_former-requires-clause-query

@@ -1,8 +1,7 @@
 use Rattle.std.proofs.Common.{◌≡◌, true, List, ℕ, map, subst, subst₂, ap, sym, ◌∙◌}
 use Rattle.sqlite.specs.{Order.column, Values.bound, Values.bound_value}
 use Rattle.sqlite_schema.specs.declared.schema.Column.{Column}
-use Rattle.office_tables_statements.specs.Stored.{are_sound, cells_at}
-use Rattle.office_tables_statements.specs.Tables.{suit}
+use Rattle.office_tables_statements.specs.{Stored.are_sound, Stored.cells_at, Tables.suit}
 use Rattle.office_tables.proofs.RefillLemmas.{put_stored}
 use Rattle.office_tables.proofs.refill.put_row.Goals as goal
 
