@@ -59,10 +59,7 @@ phase_alike p phase (Some ped) is none = absurd (true≢false (rw is at none))
 alike : (k : Kept) → has_ped k.1 ≡ false → former_columns k ≡ kept_columns k
 unfolding body_in
 alike (id, Put (row.Phase p phase)) none = ap (λ (bytes : List ℕ). text bytes ∷ []) (phase_alike p phase phase.ped refl none)
-alike (id, Put (row.Seq n ring r)) none = refl
-alike (id, Put (row.Split n p split)) none = refl
-alike (id, Put (row.Pattern n pattern)) none = refl
-alike (id, Remove k) none = refl
+alike _ none = refl
 
 module _ (q : List Cell) where
   abbrev hits : Kept → Bool
@@ -171,11 +168,8 @@ no_lead None within = tt
 no_lead (Some ped) within = let lead = within.lead in omega arith
 
 phase_no_lead : (p : ℕ) (o : Option Row) → IfSome o (λ r. IsRowWithin version_1_limits r × (key_of r ≡ key.Phase p)) → HasNoLead (the_phase o)
-phase_no_lead p None h = tt
 phase_no_lead p (Some (row.Phase q phase)) h = no_lead phase.ped h.0.ped
-phase_no_lead p (Some (row.Seq n ring r)) h = tt
-phase_no_lead p (Some (row.Split n q split)) h = tt
-phase_no_lead p (Some (row.Pattern n pattern)) h = tt
+phase_no_lead p _ h = tt
 
 judged_alike : (set : Set) → AreRecordsIn version_1 set → violations_of set ≡ violations_before_lead set
 judged_alike set are = same_violations set (λ p. phase_no_lead p (get set (key.Phase p)) (are (key.Phase p)))

@@ -1,6 +1,6 @@
 -- What the steps of an opening come to.
-use Rattle.std.proofs.Common.{◌≡◌, ◌≢◌, ◌≤◌, inl, inr, Result, Ok, Err, Some, IsTrue, false, refl, sym, ap, subst, ◌∙◌, arith}
-use Rattle.std.proofs.lemmas.Result.{IfOk-weaker}
+use Rattle.std.proofs.Common.{◌≡◌, ◌≢◌, ◌≤◌, inl, inr, Result, Ok, Err, Some, IsTrue, not, true, false, refl, sym, ap, subst, ◌∙◌, arith}
+use Rattle.std.proofs.lemmas.{Bool.not-true, Result.IfOk-weaker}
 use Rattle.sqlite.specs.State.{State, HasCleanDisk, Opens, IsLive}
 use Rattle.sqlite.specs.{Effect.Database, Effect.IsDatabase, Held.Held, Held.state, Steps.IsFresh, Tree.Trees, View.View, View.IsClean}
 use Rattle.sqlite_trees.specs.{View.doubt, View.IsQuiet, Objects.catalog_tree, declared.store.Store.Ghosts}
@@ -15,10 +15,10 @@ use Rattle.office_tables_sql.specs.{Version.AreToday, Version.Completes, Version
 use Rattle.office_tables.specs.declared.open.OpenFault.TheVariants as fault
 
 -- the tables of the office in a database that holds what it lists
-pub arranged_office : (s : State) → s.in_transaction ≡ false → s.now.schema ≡ office_schema → (IsHonest s → s.now ≡ s.committed)
+pub arranged_office : (s : State) → not s.in_transaction ≡ true → s.now.schema ≡ office_schema → (IsHonest s → s.now ≡ s.committed)
     → (IsHonest s → IsDatabase s.now) → (HasCleanDisk s → IsArranged s.committed.trees) → IsOffice s
 arranged_office s autocommit schema settled sound arranged = record {
-  autocommit = autocommit;
+  autocommit = not-true s.in_transaction autocommit;
   schema = λ h. schema;
   settled = settled;
   ordered = λ h. tables_rise s.now.trees (subst (λ (d : Database). IsArranged d.trees) (sym (settled h)) (arranged h.0)) office_schema

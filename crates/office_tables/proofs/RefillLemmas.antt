@@ -17,17 +17,12 @@ use Rattle.office_tables_shelf.specs.declared.rows.Table.TheVariants as table
 
 no_odd : (k : Kind) → suits_kind k odd ≡ true → ⊥
 no_odd kind.Integer h = true≢false (sym h)
-no_odd kind.Text h = true≢false (sym h)
-no_odd kind.Real h = true≢false (sym h)
-no_odd kind.Blob h = true≢false (sym h)
-no_odd kind.Any h = true≢false (sym h)
+no_odd _ h = true≢false (sym h)
 
 back_value : (k : Kind) (v : Value) → suits_kind k (cell_of v) ≡ true → value_of (cell_of v) ≡ v
-back_value k Null h = refl
-back_value k (Int n) h = refl
 back_value k (Real x) h = absurd (no_odd k h)
-back_value k (Text t) h = refl
 back_value k (Blob b) h = absurd (no_odd k h)
+back_value k _ h = refl
 
 back_values : (cs : List Column) (vs : Row) → length cs ≡ length vs → suit cs (cells vs) ≡ true → values_of (cells vs) ≡ vs
 back_values [] [] long h = refl

@@ -15,14 +15,10 @@ abbrev pub rows_named : List SqlTable → Trees → Named
 rows_named [] trees name = []
 rows_named (t ∷ ts) trees name = if same_name t.name name then trees t.tree else rows_named ts trees name
 
--- the rows that stand under the name of one of the eight tables, by the cells of their keys
-abbrev pub rows_kept : Table → Named → TableRows
-rows_kept t rows = rows_in (layout_at t) (rows (schema_at t).name)
-
 -- what these tables hold, each the rows that stand under its name; one that is missing holds nothing, as do all others
 abbrev pub content_of_named : Named → List Table → Content
 content_of_named rows [] = no_content
-content_of_named rows (t ∷ ts) = with_rows (content_of_named rows ts) t (rows_kept t rows)
+content_of_named rows (t ∷ ts) = with_rows (content_of_named rows ts) t (rows_in (layout_at t) (rows (schema_at t).name))
 
 -- what the eight tables hold, whatever their order and their numbers
 abbrev pub content_by : Named → Content

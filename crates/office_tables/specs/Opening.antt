@@ -122,15 +122,12 @@ module _ {S : Type 0} (g : Ghosts S) where
   abbrev pub ChecksAgain : {E : Type 0} → Held S → Result (Held S) (E × S) → Type 0
   ChecksAgain conn result = MatchResult result (IsCheckedAgain conn) (λ e. IsAsFound conn e.1)
 
-  -- a connection that comes back is in no transaction, or it is the one that was given
-  abbrev pub IsIdleOrSame : Held S → Result (Held S) S → Type 0
-  IsIdleOrSame conn back = IfOk back (λ c. (c.in_transaction ≡ false) ⊎ (c ≡ conn))
-
   -- What is known where an opening is refused. A commit that failed may be found after a crash: then the office's tables took over.
+  -- A connection that comes back is in no transaction, or it is the one that was given.
   pub record IsRefused (conn : Held S) (why : OpenFault) (back : Result (Held S) S) : Type 0 where
     pub told : IsCleanStore (store_left back) → Tells why (state g conn).committed.trees
     pub left : IsLeft conn (λ trees. (state g conn).may_leave trees ⊎ TakesOver (state g conn).committed.trees trees) (store_left back)
-    pub idle : IsIdleOrSame conn back
+    pub idle : IfOk back (λ c. (c.in_transaction ≡ false) ⊎ (c ≡ conn))
 
   -- a connection was prepared for a shelf, or refused
   abbrev pub Prepares : Held S → Result (Held S) (OpenFault × Result (Held S) S) → Type 0

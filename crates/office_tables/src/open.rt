@@ -41,10 +41,7 @@ impl From<SqlFault> for OpenFault {
     ghost from_gives = { λ _ fault. (fault ≢ open_fault.Version) × (fault ≢ open_fault.Damaged) };
 
     fn from(fault: SqlFault) -> OpenFault {
-        match fault {
-            SqlFault::NoMemory => OpenFault::NoMemory,
-            SqlFault::Store => OpenFault::Store,
-        }
+        OpenFault::from(ShelfFault::from(fault))
     }
 }
 

@@ -60,12 +60,6 @@ fn suit(row: &Row, places: &[usize], columns: &[WantedColumn<'_>]) -> bool
     suits(row.get(*place), column.1) && suit(row, places, columns)
 }
 
-fn is_told(value: ValueRef<'_>) -> bool
-    ensures { result ≡ is_sound (owned value.entry) }
-{
-    matches!(value, ValueRef::Int(_) | ValueRef::Text(_))
-}
-
 /// The values that stand at these places of a row, in the order of the places.
 fn values_of<'a>(
     alloc: Global,
@@ -86,7 +80,7 @@ fn values_of<'a>(
 fn are_told(row: &Row, places: &[usize]) -> bool
     ensures { result ≡ are_sound places.now row.now }
 {
-    places.iter().all(|place| is_told(row.get(*place)))
+    places.iter().all(|place| matches!(row.get(*place), ValueRef::Int(_) | ValueRef::Text(_)))
 }
 
 /// Puts a stored row into its table again, with the values that it had. `Store` means that the

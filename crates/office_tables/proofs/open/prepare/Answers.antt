@@ -1,5 +1,4 @@
 use Rattle.std.proofs.Common.{◌≡◌, Some, sym, ◌∙◌, arith, rules}
-use Rattle.std.proofs.lemmas.Bool.{not-true}
 use Rattle.sqlite.specs.Held.{state}
 use Rattle.office_tables_statements.specs.Calls.{IsHonest}
 use Rattle.office_tables_sql.specs.Version.{current_version, version_in}
@@ -9,7 +8,7 @@ use Rattle.office_tables.proofs.open.prepare.Goals as goal
 pub stored_version-requires : goal.stored_version-requires
 stored_version-requires g c =
     let s = state g.S.Store c.args.conn in
-    arranged_office s (not-true s.in_transaction (sym c.is_autocommit.ensures.value ∙ c.if-not-is_autocommit.false)) (sym c.schema.ensures.value ∙ c.is_office.ensures.is c.if-not-is_office.false)
+    arranged_office s (sym c.is_autocommit.ensures.value ∙ c.if-not-is_autocommit.false) (sym c.schema.ensures.value ∙ c.is_office.ensures.is c.if-not-is_office.false)
     (λ h. c.is_autocommit.ensures.settled c.if-not-is_autocommit.false h.1) (λ h. (c.schema.ensures.live h.1).0) c.requires
 
 pub returns-in-Ok-Some-eq2-clause-prepares : goal.returns-in-Ok-Some-eq2-clause-prepares
