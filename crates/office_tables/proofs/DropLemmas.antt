@@ -54,19 +54,11 @@ module _ (sql name : List ℕ) (it : DropsNamed sql name) (schema : Schema) (no_
 
 -- ---- the table that is found
 
-record Placed (p : Table → Bool) (ts : List Table) (from at : ℕ) : Type 0 where
-  place : ℕ
-  table : Table
-  is : at ≡ from + place
-  found : slice_get ts place ≡ Some table
-  there : Has ts table
-  passes : p table ≡ true
-
-placed_at : (p : Table → Bool) (ts : List Table) (from at : ℕ) → position_from p from ts ≡ Some at → Placed p ts from at
+placed_at : {X : Type 0} (p : X → Bool) (xs : List X) (from at : ℕ) → position_from p from xs ≡ Some at → (place : ℕ) × (x : X) × (at ≡ from + place) × (slice_get xs place ≡ Some x) × Has xs x × (p x ≡ true)
 placed_at p [] from at e = absurd (cc)
-placed_at p (t ∷ ts) from at e = elim (cases_Bool (p t)) [
-  | inl hit ↦ let same : from ≡ at = (let h : Some from ≡ Some at = rw hit at e in cc) in record { place = 0; table = t; is = omega (arith, same); found = refl; there = inl refl; passes = hit }
-  | inr miss ↦ let later = placed_at p ts (from + 1) at (rw miss at e) in record { place = suc later.place; table = later.table; is = omega (arith, later.is); found = later.found; there = inr later.there; passes = later.passes }
+placed_at p (x ∷ xs) from at e = elim (cases_Bool (p x)) [
+  | inl hit ↦ let same : from ≡ at = (let h : Some from ≡ Some at = rw hit at e in cc) in (0, x, omega (arith, same), refl, inl refl, hit)
+  | inr miss ↦ let later = placed_at p xs (from + 1) at (rw miss at e) in (suc later.0, later.1, omega (arith, later.2), later.3, inr later.4, later.5)
 ]
 
 module _ (task : Task) (mode : Mode) where
@@ -137,16 +129,17 @@ module _ (sql name : List ℕ) (it : DropsNamed sql name) (names : List (List �
       })
   dropped (Some at) e =
       let placed = placed_at is_named schema.tables 0 at e in
-      let found : slice_get schema.tables at ≡ Some placed.table = ap (slice_get schema.tables) (placed.is ∙ omega arith) ∙ placed.found in
-      let did = drop_found old new count at sql placed.table (command_is (Some at) e) (plain_is (Some at) e) found ran in
+      let table = placed.1 in
+      let found : slice_get schema.tables at ≡ Some table = ap (slice_get schema.tables) (placed.2 ∙ omega arith) ∙ placed.3 in
+      let did = drop_found old new count at sql table (command_is (Some at) e) (plain_is (Some at) e) found ran in
       record {
         sound = did.1;
         no_views = ap (λ (s : Schema). s.views) did.0 ∙ was.no_views;
         named = λ t there.
-            let kept = has_filtered (λ (x : Table). not (x.tree == placed.table.tree)) schema.tables t (subst (λ (s : Schema). Has s.tables t) did.0 there) in
+            let kept = has_filtered (λ (x : Table). not (x.tree == table.tree)) schema.tables t (subst (λ (s : Schema). Has s.tables t) did.0 there) in
             let other : is_named t ≡ false = false_from_ne_true (is_named t) (λ named.
-            let same = named_once schema.tables t placed.table was.sound.lists.listed.named kept.0 placed.there (same_as t.name placed.table.name name named placed.passes) in
-            true≢false (sym kept.1 ∙ ap not (eq-eqb t.tree placed.table.tree (ap (λ (x : Table). x.tree) same)))) in
+            let same = named_once schema.tables t table was.sound.lists.listed.named kept.0 placed.4 (same_as t.name table.name name named placed.5) in
+            true≢false (sym kept.1 ∙ ap not (eq-eqb t.tree table.tree (ap (λ (x : Table). x.tree) same)))) in
             others_left name names t (was.named t kept.0) other;
       }
 

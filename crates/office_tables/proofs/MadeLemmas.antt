@@ -60,9 +60,8 @@ made_of schema (t ∷ ts) = made_of (created schema t) ts
 -- the texts make these tables, one after another
 abbrev pub AreMaking : Schema → List (List ℕ) → List Table → Type 0
 AreMaking schema [] [] = Unit {0}
-AreMaking schema [] (t ∷ ts) = ⊥
-AreMaking schema (sql ∷ more) [] = ⊥
 AreMaking schema (sql ∷ more) (t ∷ ts) = Makes schema sql t × AreMaking (created schema t) more ts
+AreMaking _ _ _ = ⊥
 
 module _ {S : Type 0} (g : Ghosts S) where
   abbrev pub Ends : Held S → Schema → Type 0

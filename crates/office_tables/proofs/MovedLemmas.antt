@@ -65,10 +65,7 @@ listed_rows trees (row ∷ rows) (t ∷ ts) (u ∷ us) ours theirs name =
     let number : t.tree ≡ u.tree = omega (arith, numbers) in
     let more = listed_rows trees rows ts us ours.1 theirs.1 name in
     λ i. cond (same_name (names i) name) (trees (number i)) (more i)
-listed_rows trees [] [] (u ∷ us) ours theirs name = absurd theirs
-listed_rows trees [] (t ∷ ts) us ours theirs name = absurd ours
-listed_rows trees (row ∷ rows) [] us ours theirs name = absurd ours
-listed_rows trees (row ∷ rows) (t ∷ ts) [] ours theirs name = absurd theirs
+listed_rows trees _ _ _ ours theirs name = absurd (first_of (assumption ours, assumption theirs))
 
 -- the office's own tables
 pub office_content : (trees : Trees) → content_by (rows_named office_schema.tables trees) ≡ content_of trees

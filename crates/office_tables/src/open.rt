@@ -84,10 +84,11 @@ fn run_all<S: Alter>(tx: &mut Transaction<'_, S>, texts: &[&str]) -> Result<(), 
         OnOk result (AreRun S.Store (map (λ text. text.now) texts.now)
         tx.old.conn.now tx.new.conn.now) }
 {
-    for sql in texts {
-        tx.execute(sql, &[])?;
-    }
-    Ok(())
+    let Some((sql, texts)) = texts.split_first() else {
+        return Ok(());
+    };
+    tx.execute(sql, &[])?;
+    run_all(tx, texts)
 }
 
 /// Drops the office's tables, makes all of them in the order of their numbers, puts the rows into

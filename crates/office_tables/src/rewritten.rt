@@ -67,19 +67,8 @@ fn read(alloc: Global, table: Spelled, row: &SqlRow) -> Result<(InterId, Change)
     Ok((id, Change::Put(found)))
 }
 
-/// Whether this puts the row of a phase with a pedestrian part: no other row is spelled otherwise
-/// today than in version 1.
-fn has_pedestrian_part(change: &Change) -> bool
-    ensures { result ≡ has_ped change.now }
-{
-    match change {
-        Change::Put(Row::Phase(_, phase)) => phase.ped.is_some(),
-        _ => false,
-    }
-}
-
-/// Appends the change that puts a row that version 1 kept in a table there again, where it is
-/// spelled otherwise today.
+/// Appends the change that puts a row that version 1 kept in a table there again, if it is that of a
+/// phase with a pedestrian part: no other row is spelled otherwise today than in version 1.
 fn put_again(
     table: Spelled,
     id: InterId,
@@ -89,7 +78,7 @@ fn put_again(
     ensures { OnOk result (
         changes.new.items ≡ changes.old.items ++ puts table ((id, change) ∷ [])) }
 {
-    if !has_pedestrian_part(&change) {
+    if !matches!(&change, Change::Put(Row::Phase(_, phase)) if phase.ped.is_some()) {
         return Ok(());
     }
     let put = match (table, change) {
@@ -120,8 +109,8 @@ fn put_rows(
 }
 
 /// Appends the changes that put those rows of a table of version 1 again that have a pedestrian
-/// part, in the order of their keys. `Damaged` means that a row is none of version 1, `Store` that
-/// the database refused, `NoMemory` that a growth was refused.
+/// part, in the order of their keys; `sql` is the query of that table. `Damaged` means that a row is
+/// none of version 1, `Store` that the database refused, `NoMemory` that a growth was refused.
 pub(crate) fn put_former<S: Alter>(
     alloc: Global,
     conn: &mut Connection<S>,
