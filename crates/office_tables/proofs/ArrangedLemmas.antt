@@ -3,8 +3,7 @@ use Rattle.std.proofs.Common.{◌≡◌, inl, inr, ℕ, ◌<◌, List, [], sym, 
 use Rattle.std.proofs.{Math.Logic.∥∥₁_elim, lemmas.Bool.ne_eqb}
 use Rattle.std.specs.List.{AllByRecursion}
 use Rattle.sqlite.specs.{Recovery.Image, Files.AreFoundIn, Order.Row, Schema.Schema, Tree.Trees, View.IsShaped}
-use Rattle.sqlite_trees.specs.declared.{store.Shape.Shape, store.Shape.TheVariants.Absent, store.Shape.TheVariants.Table}
-use Rattle.sqlite_trees.specs.{Objects.catalog_tree, Objects.version_tree, Objects.IsListed, View.View, View.IsOrdered, Props.IsOrdered-prop}
+use Rattle.sqlite_trees.specs.{declared.store.Shape.Shape, declared.store.Shape.TheVariants.Absent, declared.store.Shape.TheVariants.Table, Objects.catalog_tree, Objects.version_tree, Objects.IsListed, View.View, View.IsOrdered, Props.IsOrdered-prop}
 use Rattle.sqlite_catalog.specs.Listing.{AreListed}
 use Rattle.sqlite_catalog.proofs.LayoutLemmas.{objects_rise, table_shape}
 use Rattle.sqlite_rules.proofs.ListLemmas.{all_from}

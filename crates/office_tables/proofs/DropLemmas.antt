@@ -5,26 +5,20 @@ use Rattle.std.specs.{List.AllZip, List.position_from, List.list_any}
 use Rattle.sqlite.specs.Does.{AtPlace, Drops as DoesDrop, Empties, HoldWithout, Leaves, Tally, Tested, Uncounts, no_rows}
 use Rattle.sqlite.specs.{Rows.Gives, Rows.Outcome, Rows.Part, Rows.Task, Rows.Then, Command.Command, Command.TheVariants.DropTable, Command.TheVariants.Nothing, Effect.Database, Effect.IsDatabase, Held.Held, Held.state, Listing.understood, State.State, Order.Row, State.ExecutesInside, State.mode_of, Tree.Trees, declared.run.Mode.Mode}
 use Rattle.sqlite.proofs.Callers.{runs_as, through, IsPlain}
-use Rattle.sqlite_ast.specs.declared.Statement.TheVariants as written
-use Rattle.sqlite_catalog.specs.Change.{without_table}
-use Rattle.sqlite_catalog.specs.Listing.{IsIndexRow}
-use Rattle.sqlite_catalog.proofs.ListFacts.{none_placed}
-use Rattle.sqlite_catalog.proofs.{SoundLemmas.lowered, StepLemmas.named_once}
+use Rattle.sqlite_catalog.specs.{Change.without_table, Listing.IsIndexRow}
+use Rattle.sqlite_catalog.proofs.{ListFacts.none_placed, SoundLemmas.lowered, StepLemmas.named_once}
 use Rattle.sqlite_resolve.specs.Compile.{compiled, drop_table, first, is_reserved, meaning, planned, returning, command, timed}
 use Rattle.sqlite_resolve.specs.declared.compiled.Compiled.{Compiled}
 use Rattle.sqlite_rules.proofs.ListLemmas.{all_has, has_filtered}
 use Rattle.sqlite_rules.specs.Lists.{Has}
-use Rattle.sqlite_schema.specs.Names.{same_name, table_named}
-use Rattle.sqlite_schema.specs.declared.{schema.Index.Index, schema.Keys.TheVariants.Enforced, schema.Schema.Schema, schema.Table.Table}
+use Rattle.sqlite_schema.specs.{Names.same_name, Names.table_named, declared.schema.Index.Index, declared.schema.Keys.TheVariants.Enforced, declared.schema.Schema.Schema, declared.schema.Table.Table}
 use Rattle.sqlite_syntax.specs.declared.statement.Parsed.{Parsed}
 use Rattle.sqlite_tied.specs.Compute.{everything}
 use Rattle.sqlite_trees.specs.declared.store.Store.{Ghosts}
-use Rattle.office_tables_statements.specs.Schema.{no_schema}
-use Rattle.office_tables_statements.specs.Calls.{command_of, statement_of}
+use Rattle.office_tables_statements.specs.{Schema.no_schema, Calls.command_of, Calls.statement_of}
 use Rattle.office_tables.proofs.MadeLemmas.{second_of}
-use Rattle.office_tables.specs.Found.{IsOurs}
-use Rattle.office_tables.specs.Opening.{AreOurs, AreRun}
-use Rattle.office_tables.specs.declared.{open.TheConstants.DROPS}
+use Rattle.office_tables.specs.{Found.IsOurs, Opening.AreOurs, Opening.AreRun, declared.open.TheConstants.DROPS}
+use Rattle.sqlite_ast.specs.declared.Statement.TheVariants as written
 
 -- ---- what such a text means
 
@@ -60,19 +54,11 @@ module _ (sql name : List ℕ) (it : DropsNamed sql name) (schema : Schema) (no_
 
 -- ---- the table that is found
 
-record Placed (p : Table → Bool) (ts : List Table) (from at : ℕ) : Type 0 where
-  place : ℕ
-  table : Table
-  is : at ≡ from + place
-  found : slice_get ts place ≡ Some table
-  there : Has ts table
-  passes : p table ≡ true
-
-placed_at : (p : Table → Bool) (ts : List Table) (from at : ℕ) → position_from p from ts ≡ Some at → Placed p ts from at
+placed_at : {X : Type 0} (p : X → Bool) (xs : List X) (from at : ℕ) → position_from p from xs ≡ Some at → (place : ℕ) × (x : X) × (at ≡ from + place) × (slice_get xs place ≡ Some x) × Has xs x × (p x ≡ true)
 placed_at p [] from at e = absurd (cc)
-placed_at p (t ∷ ts) from at e = elim (cases_Bool (p t)) [
-  | inl hit ↦ let same : from ≡ at = (let h : Some from ≡ Some at = rw hit at e in cc) in record { place = 0; table = t; is = omega (arith, same); found = refl; there = inl refl; passes = hit }
-  | inr miss ↦ let later = placed_at p ts (from + 1) at (rw miss at e) in record { place = suc later.place; table = later.table; is = omega (arith, later.is); found = later.found; there = inr later.there; passes = later.passes }
+placed_at p (x ∷ xs) from at e = elim (cases_Bool (p x)) [
+  | inl hit ↦ let same : from ≡ at = (let h : Some from ≡ Some at = rw hit at e in cc) in (0, x, omega (arith, same), refl, inl refl, hit)
+  | inr miss ↦ let later = placed_at p xs (from + 1) at (rw miss at e) in (suc later.0, later.1, omega (arith, later.2), later.3, inr later.4, later.5)
 ]
 
 module _ (task : Task) (mode : Mode) where
@@ -143,16 +129,17 @@ module _ (sql name : List ℕ) (it : DropsNamed sql name) (names : List (List �
       })
   dropped (Some at) e =
       let placed = placed_at is_named schema.tables 0 at e in
-      let found : slice_get schema.tables at ≡ Some placed.table = ap (slice_get schema.tables) (placed.is ∙ omega arith) ∙ placed.found in
-      let did = drop_found old new count at sql placed.table (command_is (Some at) e) (plain_is (Some at) e) found ran in
+      let table = placed.1 in
+      let found : slice_get schema.tables at ≡ Some table = ap (slice_get schema.tables) (placed.2 ∙ omega arith) ∙ placed.3 in
+      let did = drop_found old new count at sql table (command_is (Some at) e) (plain_is (Some at) e) found ran in
       record {
         sound = did.1;
         no_views = ap (λ (s : Schema). s.views) did.0 ∙ was.no_views;
         named = λ t there.
-            let kept = has_filtered (λ (x : Table). not (x.tree == placed.table.tree)) schema.tables t (subst (λ (s : Schema). Has s.tables t) did.0 there) in
+            let kept = has_filtered (λ (x : Table). not (x.tree == table.tree)) schema.tables t (subst (λ (s : Schema). Has s.tables t) did.0 there) in
             let other : is_named t ≡ false = false_from_ne_true (is_named t) (λ named.
-            let same = named_once schema.tables t placed.table was.sound.lists.listed.named kept.0 placed.there (same_as t.name placed.table.name name named placed.passes) in
-            true≢false (sym kept.1 ∙ ap not (eq-eqb t.tree placed.table.tree (ap (λ (x : Table). x.tree) same)))) in
+            let same = named_once schema.tables t table was.sound.lists.listed.named kept.0 placed.4 (same_as t.name table.name name named placed.5) in
+            true≢false (sym kept.1 ∙ ap not (eq-eqb t.tree table.tree (ap (λ (x : Table). x.tree) same)))) in
             others_left name names t (was.named t kept.0) other;
       }
 

@@ -1,13 +1,10 @@
-pub mod VersionLemmas
+mod VersionLemmas
 pub mod ArrangedLemmas
-pub mod OpenLemmas
-pub mod LeftLemmas
-pub mod MemoryLemmas
+mod OpenLemmas
 mod MadeLemmas
 mod DropLemmas
 mod RefillLemmas
 pub mod MovedLemmas
 mod FoundLemmas
-pub mod ListsAll
 mod MigrateLemmas
 pub mod Migration

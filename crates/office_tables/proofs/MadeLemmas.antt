@@ -7,17 +7,14 @@ use Rattle.sqlite_catalog.specs.Change.{created, next_tree, KeepsRows}
 use Rattle.sqlite_resolve.specs.Compile.{table_defined_by}
 use Rattle.sqlite_schema.specs.declared.schema.{Schema.Schema, Table.Table}
 use Rattle.sqlite_tied.specs.Compute.{everything}
-use Rattle.sqlite_trees.specs.declared.store.Shape.TheVariants as shape
 use Rattle.sqlite_trees.specs.{declared.store.Store.Ghosts}
 use Rattle.sqlite_trees.proofs.ListLemmas.{all_both, all_weaker}
 use Rattle.office_tables_shelf.proofs.ListLemmas.{all_more}
 use Rattle.office_tables_shelf.specs.Content.{no_content}
-use Rattle.office_tables_statements.specs.Calls.{IsReady, command_of, statement_of}
-use Rattle.office_tables_shelf.specs.declared.rows.Table.TheVariants as table
-use Rattle.office_tables_statements.specs.Tables.{layout_at}
-use Rattle.office_tables_statements.specs.Stored.{content_now, rows_in}
-use Rattle.office_tables_statements.specs.{Schema.no_schema, Schema.office_schema, declared.schema.TheConstants.CREATES}
+use Rattle.office_tables_statements.specs.{Calls.IsReady, Calls.command_of, Calls.statement_of, Tables.layout_at, Stored.content_now, Stored.rows_in, Schema.no_schema, Schema.office_schema, declared.schema.TheConstants.CREATES}
 use Rattle.office_tables.specs.{Opening.AreRun}
+use Rattle.sqlite_trees.specs.declared.store.Shape.TheVariants as shape
+use Rattle.office_tables_shelf.specs.declared.rows.Table.TheVariants as table
 
 -- in a transaction over tables without a row
 pub record IsOver (s : State) (schema : Schema) : Type 0 where
@@ -63,9 +60,8 @@ made_of schema (t ∷ ts) = made_of (created schema t) ts
 -- the texts make these tables, one after another
 abbrev pub AreMaking : Schema → List (List ℕ) → List Table → Type 0
 AreMaking schema [] [] = Unit {0}
-AreMaking schema [] (t ∷ ts) = ⊥
-AreMaking schema (sql ∷ more) [] = ⊥
 AreMaking schema (sql ∷ more) (t ∷ ts) = Makes schema sql t × AreMaking (created schema t) more ts
+AreMaking _ _ _ = ⊥
 
 module _ {S : Type 0} (g : Ghosts S) where
   abbrev pub Ends : Held S → Schema → Type 0

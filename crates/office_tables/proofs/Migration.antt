@@ -1,88 +1,54 @@
 -- The tables after the rows were put in their place, and the office that they stand for.
-use Rattle.std.proofs.Common.{◌≡◌, ◌⊎◌, inl, inr, ℕ, suc, true, false, T, List, [], ◌∷◌, map, find, length, cond, if◌then◌else◌, Option, Some, None, option_map, refl, sym, ap, subst, ◌∙◌, arith, true≢false}
+use Rattle.std.proofs.Common.{◌≡◌, ◌⊎◌, inl, inr, ℕ, suc, true, false, T, List, [], ◌∷◌, map, find, length, cond, if◌then◌else◌, Option, Some, None, option_map, refl, sym, ap, subst, ◌∙◌, arith, true≢false, Bool, rules}
 use Rattle.std.proofs.{lemmas.Option.IfSome_then, lemmas.Bool.cases_Bool}
-use Rattle.std.specs.FinMap as finite
-use Rattle.std.specs.FinMap.{get, insert, entries_sorted, get-entries, get-insert, get-empty, same_map, is_sorted}
+use Rattle.std.specs.FinMap.{get, insert, entries, entries_sorted, get-entries, get-insert, get-empty, same_map, is_sorted}
 use Rattle.std.specs.{List.AllByRecursion, List.list_all, Ordering.is_eq, FinMap.Entries.below_all, Prelude.IfSome, Prelude.IsTrue}
 use Rattle.sqlite_rules.proofs.ListLemmas.{all_has, has_found}
-use Rattle.signal_records.specs.{PhaseList.is_phase_list, Row.key_of, Within.current_limits, Within.version_1_limits, Within.IsAnyPedWithin, Within.IsRowWithin, Within.IsKeyWithin, Within.IsChangeWithin, Key.key_cmp, declared.key.Key.Key, declared.limits.Limits.Limits, declared.record.Change.Change, declared.record.Change.TheVariants.Put, declared.record.Change.TheVariants.Remove, declared.record.Ped.Ped, declared.record.Phase.Phase}
-use Rattle.signal_records.specs.declared.record.Row.{Row}
-use Rattle.signal_records.specs.TimingSet.{Rows as Set}
-use Rattle.signal_records.specs.declared.key.Key.TheVariants as key
-use Rattle.signal_records.specs.declared.record.Row.TheVariants as row
+use Rattle.signal_records.specs.{PhaseList.is_phase_list, Row.key_of, Within.current_limits, Within.version_1_limits, Within.IsAnyPedWithin, Within.IsRowWithin, Within.IsKeyWithin, Within.IsChangeWithin, Key.key_cmp, declared.key.Key.Key, declared.limits.Limits.Limits, declared.record.Change.Change, declared.record.Change.TheVariants.Put, declared.record.Change.TheVariants.Remove, declared.record.Ped.Ped, declared.record.Phase.Phase, declared.record.Row.Row, TimingSet.Rows as Set, ChangedRows.left_by, ChangedRows.changed_key}
 use Rattle.signal_records.proofs.{Lists.is_phase_list_wider, RowLaws.are_version_1}
 use Rattle.signal_rules.specs.{BeforeLead.HasNoLead, BeforeLead.violations_before_lead, Lookup.the_phase, Violations.violations_of}
 use Rattle.signal_rules.proofs.BeforeLead.{same_violations}
 use Rattle.draft_core.specs.DraftRows.{Said, silent, leaves, removes}
-use Rattle.signal_records.specs.ChangedRows.{left_by, changed_key}
-use Rattle.office_tables_shelf.specs.{Cells.Cell, Cells.text, Cells.TableRows, Cells.cells_cmp, Cells.rows_by, Change.changed_by, Content.Content, Rows.timing_key, Rows.timing_columns_in, Rows.left_columns_in, Rows.body_in}
-use Rattle.office_tables_shelf.specs.RegisterStands.{RegisterStands}
+use Rattle.office_tables_shelf.specs.{Cells.Cell, Cells.text, Cells.TableRows, Cells.cells_cmp, Cells.rows_by, Change.changed, Change.changed_by, Content.Content, Rows.timing_key, Rows.timing_columns_in, Rows.left_columns_in, Rows.body_in, RegisterStands.RegisterStands, Content.put_in, Content.rows_at, Content.with_rows}
 use Rattle.office_machine.specs.Office.{Office, Intersection, side_at, side_of, AreRecordsIn, IsSoundIntersectionIn, IsSoundDraftIn, today, version_1}
 use Rattle.office_tables_decisions.specs.StandFor.{IsTimingKey, HasTimingKeys, IsSaidIn, said_columns_in, StandForSoundIn}
 use Rattle.office_tables_shelf.proofs.CellLemmas.{cells_total, cells_exact, is_under, find_entry, get_by, tied}
 use Rattle.office_tables_shelf.proofs.{ListLemmas.less, ListLemmas.parts, RowLemmas.same_left}
-use Rattle.office_tables.specs.Rewritten.{former_cells, AreKept, has_ped, is_row, timing_puts, draft_puts}
-use Rattle.office_tables.specs.Migration.{respelled_count, kept_key, kept_columns, IsSpelledAnew, IsMigrated, StandAnew}
-use Rattle.office_tables.specs.declared.rewritten.Migrated.{Migrated}
-
-abbrev Kept : Type 0
-Kept = ℕ × Change
-
--- the other cells in version 1
-abbrev former : Kept → List Cell
-former k = left_columns_in version_1_limits (left_by k.1)
+use Rattle.office_tables_statements.specs.Tables.{stored_for}
+use Rattle.office_tables.specs.Rewritten.{AreKept, IsFormer, Kept, former_columns, has_ped, kept_key, put_again, puts, table_of}
+use Rattle.office_tables.specs.{Migration.kept_columns, Migration.IsMigrated, Migration.StandAnew, declared.rewritten.Migrated.Migrated, declared.rewritten.Spelled.Spelled, declared.rewritten.Spelled.TheVariants.Timing, declared.rewritten.Spelled.TheVariants.Draft}
+use Rattle.office_tables.proofs.MovedLemmas.{its_rows, last_rows, own_rows}
+use Rattle.std.specs.FinMap as finite
+use Rattle.signal_records.specs.declared.key.Key.TheVariants as key
+use Rattle.signal_records.specs.declared.record.Row.TheVariants as row
 
 -- ---- the rows that are put
 
--- the table with the rows put that are spelled otherwise
+-- the table with a row put where it is spelled otherwise
+abbrev step : TableRows → Kept → TableRows
+step rows k = if has_ped k.1 then insert rows (kept_key k) (kept_columns k) else rows
+
 abbrev puts_in : TableRows → List Kept → TableRows
 puts_in rows [] = rows
-puts_in rows (k ∷ ks) = puts_in (if has_ped k.1 then insert rows (kept_key k) (kept_columns k) else rows) ks
+puts_in rows (k ∷ ks) = puts_in (step rows k) ks
 
--- the changes put these rows, and are as many
-timing_put_all : (tables : Content) (ks : List Kept)
-    → (changed_by tables (timing_puts ks) ≡ record tables { timing = puts_in tables.timing ks })
-    × (length (timing_puts ks) ≡ respelled_count ks)
-timing_put_all tables [] = (refl, refl)
-timing_put_all tables ((id, Put r) ∷ ks) =
-    let k : Kept = (id, Put r) in
-    elim (cases_Bool (has_ped (Put r))) [
-      | inl some ↦
-          let put : Content = record tables { timing = insert tables.timing (kept_key k) (kept_columns k) } in
-          let later = timing_put_all put ks in
-          rw some (later.0, ap suc later.1)
-      | inr none ↦ rw none (timing_put_all tables ks)
-    ]
-timing_put_all tables ((id, Remove k) ∷ ks) = timing_put_all tables ks
+one_put : (t : Spelled) (tables : Content) (k : Kept) → has_ped k.1 ≡ true → changed tables (put_again t k) ≡ put_in tables (table_of t) (kept_key k) (kept_columns k)
+one_put Timing tables (id, Put r) some = refl
+one_put Timing tables (id, Remove key) some = absurd (true≢false (sym some))
+one_put Draft tables k some = refl
 
-draft_put_all : (tables : Content) (ks : List Kept)
-    → (changed_by tables (draft_puts ks) ≡ record tables { draft = puts_in tables.draft ks })
-    × (length (draft_puts ks) ≡ respelled_count ks)
-draft_put_all tables [] = (refl, refl)
-draft_put_all tables (k ∷ ks) = elim (cases_Bool (has_ped k.1)) [
+-- the changes put these rows
+all_put : (t : Spelled) (tables : Content) (ks : List Kept) → changed_by tables (puts t ks) ≡ with_rows tables (table_of t) (puts_in (rows_at tables (table_of t)) ks)
+all_put t tables [] = sym (own_rows (table_of t) tables)
+all_put t tables (k ∷ ks) = elim (cases_Bool (has_ped k.1)) [
   | inl some ↦
-      let put : Content = record tables { draft = insert tables.draft (kept_key k) (kept_columns k) } in
-      let later = draft_put_all put ks in
-      rw some (later.0, ap suc later.1)
-  | inr none ↦ rw none (draft_put_all tables ks)
+      let rows = insert (rows_at tables (table_of t)) (kept_key k) (kept_columns k) in
+      rw some (ap (λ (c : Content). changed_by c (puts t ks)) (one_put t tables k some) ∙ all_put t (with_rows tables (table_of t) rows) ks
+      ∙ last_rows (table_of t) tables rows _ ∙ ap (λ (r : TableRows). with_rows tables (table_of t) (puts_in r ks)) (its_rows (table_of t) tables rows))
+  | inr none ↦ rw none (all_put t tables ks)
 ]
 
 -- ---- what then stands under a key
-
--- what stands under a key after the puts, by what stood there
-abbrev after : List Cell → List Kept → Option (List Cell) → Option (List Cell)
-after q [] o = o
-after q (k ∷ ks) o = after q ks (if has_ped k.1 then cond (is_under kept_key kept_columns q k) (Some (kept_columns k)) o else o)
-
-get_puts : (q : List Cell) (rows : TableRows) (ks : List Kept) → get (puts_in rows ks) q ≡ after q ks (get rows q)
-get_puts q rows [] = refl
-get_puts q rows (k ∷ ks) = elim (cases_Bool (has_ped k.1)) [
-  | inl some ↦
-      let put = insert rows (kept_key k) (kept_columns k) in
-      rw some (get_puts q put ks
-      ∙ ap (after q ks) (get-insert cells_total rows (kept_key k) (kept_columns k) q))
-  | inr none ↦ rw none (get_puts q rows ks)
-]
 
 -- what is spelled alike in both versions
 phase_alike : (p : ℕ) (phase : Phase) (ped : Option Ped) → phase.ped ≡ ped → has_ped (Put (row.Phase p phase)) ≡ false → body_in version_1_limits (row.Phase p phase) ≡ body_in current_limits (row.Phase p phase)
@@ -90,67 +56,78 @@ unfolding body_in
 phase_alike p phase None is none = rw is refl
 phase_alike p phase (Some ped) is none = absurd (true≢false (rw is at none))
 
-alike : (change : Change) → has_ped change ≡ false → left_columns_in version_1_limits (left_by change) ≡ left_columns_in current_limits (left_by change)
+alike : (k : Kept) → has_ped k.1 ≡ false → former_columns k ≡ kept_columns k
 unfolding body_in
-alike (Put (row.Phase p phase)) none = ap (λ (bytes : List ℕ). text bytes ∷ []) (phase_alike p phase phase.ped refl none)
-alike (Put (row.Seq n ring r)) none = refl
-alike (Put (row.Split n p split)) none = refl
-alike (Put (row.Pattern n pattern)) none = refl
-alike (Remove k) none = refl
+alike (id, Put (row.Phase p phase)) none = ap (λ (bytes : List ℕ). text bytes ∷ []) (phase_alike p phase phase.ped refl none)
+alike _ none = refl
 
-none_after : (q : List Cell) (ks : List Kept) (o : Option (List Cell)) → AllByRecursion (λ k. is_under kept_key kept_columns q k ≡ false) ks → after q ks o ≡ o
-none_after q [] o none = refl
-none_after q (k ∷ ks) o none = elim (cases_Bool (has_ped k.1)) [
-  | inl some ↦ rw (some, none.0) (none_after q ks o none.1)
-  | inr unlike ↦ rw unlike (none_after q ks o none.1)
-]
+module _ (q : List Cell) where
+  abbrev hits : Kept → Bool
+  hits = is_under kept_key kept_columns q
 
--- no later row of a list in order has the key of the first
-apart_after : (q : List Cell) (k : Kept) (ks : List Kept) → T (below_all cells_cmp (kept_key k) (map former_cells ks)) → is_under kept_key kept_columns q k ≡ true → AllByRecursion (λ x. is_under kept_key kept_columns q x ≡ false) ks
-apart_after q k [] below hit = tt
-apart_after q k (x ∷ ks) below hit =
-    let p = parts _ _ below in
-    (ap (λ (c : List Cell). is_eq (cells_cmp c (kept_key x))) (cells_exact q (kept_key k) (tied _ hit)) ∙ ap is_eq (less _ p.0), apart_after q k ks p.1 hit)
+  hit_step : (rows : TableRows) (k : Kept) → hits k ≡ true → get rows q ≡ Some (former_columns k) → get (step rows k) q ≡ Some (kept_columns k)
+  hit_step rows k hit is = elim (cases_Bool (has_ped k.1)) [
+    | inl some ↦ rw some (rw (get-insert cells_total rows (kept_key k) (kept_columns k) q, hit))
+    | inr none ↦ rw none (is ∙ ap Some (alike k none))
+  ]
 
-spelled : (q : List Cell) (ks : List Kept) → T (is_sorted cells_cmp (map former_cells ks)) → after q ks (option_map former (find (is_under kept_key kept_columns q) ks)) ≡ option_map kept_columns (find (is_under kept_key kept_columns q) ks)
-spelled q [] sorted = refl
-spelled q (k ∷ ks) sorted = go (cases_Bool (is_under kept_key kept_columns q k)) (cases_Bool (has_ped k.1)) (spelled q ks (parts _ _ sorted).1)
-  where
-    go : (is_under kept_key kept_columns q k ≡ true) ⊎ (is_under kept_key kept_columns q k ≡ false) → (has_ped k.1 ≡ true) ⊎ (has_ped k.1 ≡ false)
-        → after q ks (option_map former (find (is_under kept_key kept_columns q) ks)) ≡ option_map kept_columns (find (is_under kept_key kept_columns q) ks)
-        → after q (k ∷ ks) (option_map former (find (is_under kept_key kept_columns q) (k ∷ ks))) ≡ option_map kept_columns (find (is_under kept_key kept_columns q) (k ∷ ks))
-    go (inl hit) (inl some) later = rw (hit, some) (none_after q ks _ (apart_after q k ks (parts _ _ sorted).0 hit))
-    go (inl hit) (inr none) later = rw (hit, none) (none_after q ks _ (apart_after q k ks (parts _ _ sorted).0 hit) ∙ ap Some (alike k.1 none))
-    go (inr miss) (inl some) later = rw (miss, some) later
-    go (inr miss) (inr none) later = rw (miss, none) later
+  missed_step : (rows : TableRows) (k : Kept) → hits k ≡ false → get (step rows k) q ≡ get rows q
+  missed_step rows k miss = elim (cases_Bool (has_ped k.1)) [
+    | inl some ↦ rw some (rw (get-insert cells_total rows (kept_key k) (kept_columns k) q, miss))
+    | inr none ↦ rw none refl
+  ]
 
-was : (rows : TableRows) (ks : List Kept) → AreKept rows ks → (q : List Cell) → get rows q ≡ option_map former (find (is_under kept_key kept_columns q) ks)
-was rows ks kept q = get-entries rows q ∙ ap (finite.find cells_cmp q) (sym kept.cells) ∙ find_entry kept_key former ks q
+  missed : (rows : TableRows) (ks : List Kept) → AllByRecursion (λ k. hits k ≡ false) ks → get (puts_in rows ks) q ≡ get rows q
+  missed rows [] none = refl
+  missed rows (k ∷ ks) none = missed (step rows k) ks none.1 ∙ missed_step rows k none.0
 
--- the rows of version 1, each as it is spelled today
-pub anew : (rows : TableRows) (ks : List Kept) → AreKept rows ks → puts_in rows ks ≡ rows_by kept_key kept_columns ks
-anew rows ks kept =
-    let sorted : T (is_sorted cells_cmp (map former_cells ks)) = subst (λ es. T (is_sorted cells_cmp es)) (sym kept.cells) (entries_sorted rows) in
-    same_map cells_total cells_exact _ _ (λ q. get_puts q rows ks ∙ ap (after q ks) (was rows ks kept q) ∙ spelled q ks sorted ∙ sym (get_by kept_key kept_columns ks q))
+  -- no later row of a list in order has the key of the first
+  apart_after : (k : Kept) (ks : List Kept) → T (below_all cells_cmp (kept_key k) (map (stored_for kept_key former_columns) ks)) → hits k ≡ true → AllByRecursion (λ x. hits x ≡ false) ks
+  apart_after k [] below hit = tt
+  apart_after k (x ∷ ks) below hit =
+      let p = parts _ _ below in
+      (ap (λ (c : List Cell). is_eq (cells_cmp c (kept_key x))) (cells_exact q (kept_key k) (tied _ hit)) ∙ ap is_eq (less _ p.0), apart_after k ks p.1 hit)
+
+  spelled : (rows : TableRows) (ks : List Kept) → T (is_sorted cells_cmp (map (stored_for kept_key former_columns) ks)) → get rows q ≡ option_map former_columns (find hits ks)
+      → get (puts_in rows ks) q ≡ option_map kept_columns (find hits ks)
+  spelled rows [] sorted is = is
+  spelled rows (k ∷ ks) sorted is =
+      let p = parts _ _ sorted in
+      elim (cases_Bool (hits k)) [
+        | inl hit ↦ rw hit (missed (step rows k) ks (apart_after k ks p.0 hit) ∙ hit_step rows k hit (rw hit at is))
+        | inr miss ↦ rw miss (spelled (step rows k) ks p.1 (missed_step rows k miss ∙ rw miss at is))
+      ]
+
+module _ (t : Spelled) (rows : TableRows) (ks : List Kept) (kept : AreKept t (entries rows) ks) where
+  was : (q : List Cell) → get rows q ≡ option_map former_columns (find (hits q) ks)
+  was q = get-entries rows q ∙ ap (finite.find cells_cmp q) (sym kept.stored) ∙ find_entry kept_key former_columns ks q
+
+  -- the rows of version 1, each as it is spelled today
+  anew : puts_in rows ks ≡ rows_by kept_key kept_columns ks
+  anew =
+      let sorted : T (is_sorted cells_cmp (map (stored_for kept_key former_columns) ks)) = subst (λ es. T (is_sorted cells_cmp es)) (sym kept.stored) (entries_sorted rows) in
+      same_map cells_total cells_exact _ _ (λ q. spelled q rows ks sorted (was q) ∙ sym (get_by kept_key kept_columns ks q))
 
 -- the tables after the puts
-pub migrated : (old : Content) (count : Migrated) (timing drafts : List Kept) → AreKept old.timing timing → AreKept old.draft drafts → list_all (λ (k : Kept). is_row k.1) timing ≡ true
-    → count.timing ≡ length (timing_puts timing) → count.draft ≡ length (draft_puts drafts) → IsMigrated old (changed_by (changed_by old (timing_puts timing)) (draft_puts drafts)) count
-migrated old count timing drafts timing_kept drafts_kept are_rows many few =
-    let first = timing_put_all old timing in
-    let second = draft_put_all (record old { timing = puts_in old.timing timing }) drafts in
-    let whole : changed_by (changed_by old (timing_puts timing)) (draft_puts drafts) ≡ record old { timing = puts_in old.timing timing; draft = puts_in old.draft drafts } =
-    ap (λ (t : Content). changed_by t (draft_puts drafts)) first.0 ∙ second.0 in
-    subst (λ (new : Content). IsMigrated old new count) (sym whole) (record {
-      timing = timing;
-      draft = drafts;
-      timing_rows = record { before = timing_kept; after = anew old.timing timing timing_kept };
-      timing_puts = are_rows;
-      draft_rows = record { before = drafts_kept; after = anew old.draft drafts drafts_kept };
+pub migrated : (old : Content) (timing drafts : List Kept) → AreKept Timing (entries old.timing) timing → AreKept Draft (entries old.draft) drafts
+    → IsMigrated old (changed_by (changed_by old (puts Timing timing)) (puts Draft drafts)) (record { timing = length (puts Timing timing); draft = length (puts Draft drafts) })
+migrated old timing drafts timing_kept drafts_kept =
+    let first = anew Timing old.timing timing timing_kept in
+    let second = anew Draft old.draft drafts drafts_kept in
+    let mid = ap (λ (c : Content). changed_by c (puts Draft drafts)) (all_put Timing old timing) ∙ all_put Draft (record old { timing = puts_in old.timing timing }) drafts in
+    let whole : changed_by (changed_by old (puts Timing timing)) (puts Draft drafts) ≡ record old { timing = rows_by kept_key kept_columns timing; draft = rows_by kept_key kept_columns drafts } =
+    mid ∙ (λ i. record old { timing = first i; draft = second i }) in
+    rw whole (record {
+      kept = both timing drafts;
+      before = λ t. elim t as (λ t. AreKept t (entries (rows_at old (table_of t))) (both timing drafts t)) [ Timing ↦ timing_kept | Draft ↦ drafts_kept ];
+      after = λ t. elim t as (λ t. rows_at (record old { timing = rows_by kept_key kept_columns timing; draft = rows_by kept_key kept_columns drafts }) (table_of t) ≡ rows_by kept_key kept_columns (both timing drafts t)) [ Timing ↦ refl | Draft ↦ refl ];
       others = refl;
-      timing_count = many ∙ first.1;
-      draft_count = few ∙ second.1;
+      count_is = refl;
     })
+  where
+    both : List Kept → List Kept → Spelled → List Kept
+    both timing drafts Timing = timing
+    both timing drafts Draft = drafts
 
 -- ---- the limits of version 1 are within today's
 
@@ -191,53 +168,45 @@ no_lead None within = tt
 no_lead (Some ped) within = let lead = within.lead in omega arith
 
 phase_no_lead : (p : ℕ) (o : Option Row) → IfSome o (λ r. IsRowWithin version_1_limits r × (key_of r ≡ key.Phase p)) → HasNoLead (the_phase o)
-phase_no_lead p None h = tt
 phase_no_lead p (Some (row.Phase q phase)) h = no_lead phase.ped h.0.ped
-phase_no_lead p (Some (row.Seq n ring r)) h = tt
-phase_no_lead p (Some (row.Split n q split)) h = tt
-phase_no_lead p (Some (row.Pattern n pattern)) h = tt
+phase_no_lead p _ h = tt
 
 judged_alike : (set : Set) → AreRecordsIn version_1 set → violations_of set ≡ violations_before_lead set
 judged_alike set are = same_violations set (λ p. phase_no_lead p (get set (key.Phase p)) (are (key.Phase p)))
 
 -- ---- the office that the tables stand for
 
-left_within : (change : Change) → IsChangeWithin version_1_limits change → IfSome (left_by change) (IsRowWithin version_1_limits)
-left_within (Put r) within = within
-left_within (Remove k) within = tt
+left_within : (t : Spelled) (k : Kept) → IsFormer t k → IfSome (left_by k.1) (IsRowWithin version_1_limits)
+left_within Timing (id, Put r) within = within.1
+left_within Draft (id, Put r) within = within.1
+left_within t (id, Remove k) within = tt
 
-module _ (old new : TableRows) (ks : List Kept) (anew : IsSpelledAnew old new ks) where
+module _ (t : Spelled) (old new : TableRows) (ks : List Kept) (before : AreKept t (entries old) ks) (after : new ≡ rows_by kept_key kept_columns ks) where
   -- a row that was found, and what it leaves
-  kept_anew : (q : List Cell) (k : Kept) (left : Option Row) → find (is_under kept_key kept_columns q) ks ≡ Some k → IfSome left (IsRowWithin version_1_limits)
-      → left_columns_in version_1_limits (left_by k.1) ≡ left_columns_in version_1_limits left → Some (kept_columns k) ≡ Some (left_columns_in current_limits left)
+  kept_anew : (q : List Cell) (k : Kept) (left : Option Row) → find (hits q) ks ≡ Some k → IfSome left (IsRowWithin version_1_limits)
+      → former_columns k ≡ left_columns_in version_1_limits left → Some (kept_columns k) ≡ Some (left_columns_in current_limits left)
   kept_anew q k left at within cells =
-      let in_k = all_has (λ (k : Kept). IsChangeWithin version_1_limits k.1) ks k anew.before.within (has_found (is_under kept_key kept_columns q) ks k at).0 in
-      ap (λ (l : Option Row). Some (left_columns_in current_limits l)) (same_left version_1_limits (left_by k.1) left are_version_1 (left_within k.1 in_k) within cells)
+      let in_k = all_has (IsFormer t) ks k before.within (has_found (hits q) ks k at).0 in
+      ap (λ (l : Option Row). Some (left_columns_in current_limits l)) (same_left version_1_limits (left_by k.1) left are_version_1 (left_within t k in_k) within cells)
 
   said_anew : (q : List Cell) (at_key : Key) (said : Said) → IsSaidIn version_1 at_key said → get old q ≡ said_columns_in version_1_limits said → get new q ≡ said_columns_in current_limits said
   said_anew q at_key said within is =
-      ap (λ (rows : TableRows). get rows q) anew.after ∙ get_by kept_key kept_columns ks q
-      ∙ go (find (is_under kept_key kept_columns q) ks) refl said within (sym (was old ks anew.before q) ∙ is)
+      ap (λ (rows : TableRows). get rows q) after ∙ get_by kept_key kept_columns ks q
+      ∙ go (find (hits q) ks) refl said within (sym (was t old ks before q) ∙ is)
     where
-      go : (o : Option Kept) → find (is_under kept_key kept_columns q) ks ≡ o → (said : Said) → IsSaidIn version_1 at_key said
-          → option_map former o ≡ said_columns_in version_1_limits said → option_map kept_columns o ≡ said_columns_in current_limits said
+      go : (o : Option Kept) → find (hits q) ks ≡ o → (said : Said) → IsSaidIn version_1 at_key said
+          → option_map former_columns o ≡ said_columns_in version_1_limits said → option_map kept_columns o ≡ said_columns_in current_limits said
       go None at silent within e = refl
-      go None at (leaves r) within e = cc
-      go None at removes within e = cc
-      go (Some k) at silent within e = cc
-      go (Some k) at (leaves r) within e =
-          let cells : left_columns_in version_1_limits (left_by k.1) ≡ left_columns_in version_1_limits (Some r) = cc in
-          kept_anew q k (Some r) at within.0 cells
-      go (Some k) at removes within e =
-          let cells : left_columns_in version_1_limits (left_by k.1) ≡ left_columns_in version_1_limits None = cc in
-          kept_anew q k None at tt cells
+      go (Some k) at (leaves r) within e = kept_anew q k (Some r) at within.0 (cc)
+      go (Some k) at removes within e = kept_anew q k None at tt (cc)
+      go _ at _ within e = cc
 
   keys_anew : HasTimingKeys new
-  keys_anew q columns is = go (find (is_under kept_key kept_columns q) ks) refl (sym (get_by kept_key kept_columns ks q) ∙ sym (ap (λ (rows : TableRows). get rows q) anew.after) ∙ is)
+  keys_anew q columns is = go (find (hits q) ks) refl (sym (get_by kept_key kept_columns ks q) ∙ sym (ap (λ (rows : TableRows). get rows q) after) ∙ is)
     where
-      go : (o : Option Kept) → find (is_under kept_key kept_columns q) ks ≡ o → option_map kept_columns o ≡ Some columns → IsTimingKey q
+      go : (o : Option Kept) → find (hits q) ks ≡ o → option_map kept_columns o ≡ Some columns → IsTimingKey q
       go None at e = absurd (let none = e in cc)
-      go (Some k) at e = (k.0, changed_key k.1, cells_exact q (kept_key k) (tied _ (has_found (is_under kept_key kept_columns q) ks k at).1))
+      go (Some k) at e = (k.0, changed_key k.1, cells_exact q (kept_key k) (tied _ (has_found (hits q) ks k at).1))
 
 -- a committed row, said as a draft row would say it
 abbrev standing : Option Row → Said
@@ -283,12 +252,12 @@ stand_anew old new count office it before =
           intersection = ap (λ (t : Content). t.intersection) it.others ∙ stand.intersection;
           timing = λ id k.
               let o = get (side_at office id).committed k in
-              said_anew old.timing new.timing it.timing it.timing_rows (timing_key id k) k (standing o) (committed_within k o (in_timing id k)) (stand.timing id k ∙ committed_said version_1_limits o) ∙ sym (committed_said current_limits o);
-          timing_keys = keys_anew old.timing new.timing it.timing it.timing_rows;
+              said_anew Timing old.timing new.timing (it.kept Timing) (it.before Timing) (it.after Timing) (timing_key id k) k (standing o) (committed_within k o (in_timing id k)) (stand.timing id k ∙ committed_said version_1_limits o) ∙ sym (committed_said current_limits o);
+          timing_keys = keys_anew Timing old.timing new.timing (it.kept Timing) (it.before Timing) (it.after Timing);
           draft = λ id k.
               let d = stand.draft id k in
-              record { said = d.said; stored = said_anew old.draft new.draft it.draft it.draft_rows (timing_key id k) k d.said d.within d.stored; stands = d.stands; within = said_more k d.said d.within };
-          draft_keys = keys_anew old.draft new.draft it.draft it.draft_rows;
+              record { said = d.said; stored = said_anew Draft old.draft new.draft (it.kept Draft) (it.before Draft) (it.after Draft) (timing_key id k) k d.said d.within d.stored; stands = d.stands; within = said_more k d.said d.within };
+          draft_keys = keys_anew Draft old.draft new.draft (it.kept Draft) (it.before Draft) (it.after Draft);
           register = subst (λ (t : Content). RegisterStands t office.register) (sym it.others)
               (record { inspection = stand.register.inspection; work_order = stand.register.work_order; used_part = stand.register.used_part; delivery = stand.register.delivery; part = stand.register.part });
         };

@@ -1,26 +1,24 @@
 -- What the steps of an opening come to.
-use Rattle.std.proofs.Common.{◌≡◌, ◌≤◌, inl, inr, List, map, Some, IsTrue, false, refl, sym, ap, subst, ◌∙◌, arith}
+use Rattle.std.proofs.Common.{◌≡◌, ◌≢◌, ◌≤◌, inl, inr, Result, Ok, Err, Some, IsTrue, not, true, false, refl, sym, ap, subst, ◌∙◌, arith}
+use Rattle.std.proofs.lemmas.{Bool.not-true, Result.IfOk-weaker}
 use Rattle.sqlite.specs.State.{State, HasCleanDisk, Opens, IsLive}
 use Rattle.sqlite.specs.{Effect.Database, Effect.IsDatabase, Held.Held, Held.state, Steps.IsFresh, Tree.Trees, View.View, View.IsClean}
-use Rattle.sqlite_trees.specs.{View.doubt, Objects.catalog_tree, declared.store.Store.Ghosts}
+use Rattle.sqlite_trees.specs.{View.doubt, View.IsQuiet, Objects.catalog_tree, declared.store.Store.Ghosts}
 use Rattle.sqlite_catalog.specs.Listing.{AreListed}
-use Rattle.office_tables_shelf.specs.{Content.no_content, Counts.no_writes}
-use Rattle.office_tables_statements.specs.Schema.{office_schema}
-use Rattle.office_tables_statements.specs.{Calls.IsHonest, Calls.IsOffice, Calls.Keeps, Stored.content_now, Stored.content_of}
-use Rattle.office_tables.specs.Arranged.{IsArranged, IsUnchanged, IsTaken, IsCheckedAgain}
-use Rattle.office_tables.specs.Found.{MayBeMade, TakesOver, eight_rows, keeper_rows}
-use Rattle.office_tables.specs.Moved.{all_put, part_moved, rows_named}
-use Rattle.office_tables.specs.Opening.{IsOpened, IsOpenIfClean, MayMake}
-use Rattle.office_tables.proofs.{ArrangedLemmas.tables_rise, MovedLemmas.moved_whole, MovedLemmas.office_hold}
-use Rattle.office_tables.specs.{SqlShelf.IsCurrent, SqlShelf.SqlView}
-use Rattle.office_tables_sql.specs.{Version.AreToday, Version.version_in, Version.current_version}
-use Rattle.office_tables.specs.declared.gather.Moved.{Moved}
+use Rattle.office_tables_shelf.specs.Content.{Content}
+use Rattle.office_tables_statements.specs.{Schema.office_schema, Calls.IsHonest, Calls.IsOffice, Calls.Keeps, Stored.content_now, Stored.content_of}
+use Rattle.office_tables.specs.{Arranged.IsArranged, Arranged.IsUnchanged, SqlShelf.SqlView, declared.open.OpenFault.OpenFault}
+use Rattle.office_tables.specs.Found.{Hold, MayBeMade, TakesOver, Tells}
+use Rattle.office_tables.specs.Opening.{IsAsFound, IsCheckedAgain, IsCleanStore, IsOpenIfClean, IsPrepared, IsRefused, IsTaken, Opens as OpensShelf, Prepares, WritesToday, store_left}
+use Rattle.office_tables.proofs.{ArrangedLemmas.tables_rise, MovedLemmas.office_hold, VersionLemmas.are_today}
+use Rattle.office_tables_sql.specs.{Version.AreToday, Version.Completes, Version.version_in, Version.current_version}
+use Rattle.office_tables.specs.declared.open.OpenFault.TheVariants as fault
 
 -- the tables of the office in a database that holds what it lists
-pub arranged_office : (s : State) → s.in_transaction ≡ false → s.now.schema ≡ office_schema → (IsHonest s → s.now ≡ s.committed)
+pub arranged_office : (s : State) → not s.in_transaction ≡ true → s.now.schema ≡ office_schema → (IsHonest s → s.now ≡ s.committed)
     → (IsHonest s → IsDatabase s.now) → (HasCleanDisk s → IsArranged s.committed.trees) → IsOffice s
 arranged_office s autocommit schema settled sound arranged = record {
-  autocommit = autocommit;
+  autocommit = not-true s.in_transaction autocommit;
   schema = λ h. schema;
   settled = settled;
   ordered = λ h. tables_rise s.now.trees (subst (λ (d : Database). IsArranged d.trees) (sym (settled h)) (arranged h.0)) office_schema
@@ -28,116 +26,146 @@ arranged_office s autocommit schema settled sound arranged = record {
   sound = sound;
 }
 
--- the database has the office's tables and, if it is open, they took over what its last commit held
-pub record IsPrepared (old new : State) : Type 0 where
-  pub office : IsOffice new
-  pub opened : IsOpenIfClean new
-  pub was_clean : IsHonest new → HasCleanDisk old
-  pub taken : IsHonest new → TakesOver old.committed.trees new.now.trees
+-- a fault of the store tells nothing of the tables
+pub tells_none : (why : OpenFault) (trees : Trees) → why ≢ fault.Version → why ≢ fault.Damaged → Tells why trees
+tells_none fault.Version trees other sound = absurd (other refl)
+tells_none fault.Damaged trees other sound = absurd (sound refl)
+tells_none _ trees other sound = tt
 
--- tables that were prepared, of which a crash leaves what is committed
-module _ (old new : State) (it : IsPrepared old new) (settled : (trees : Trees) → IsTrue new.is_open → new.may_leave trees → trees ≡ new.committed.trees) where
-  left_now : (trees : Trees) → IsHonest new → new.may_leave trees → trees ≡ new.now.trees
-  left_now trees h may = settled trees h.1 may ∙ sym (ap (λ (d : Database). d.trees) (it.office.settled h))
+-- tables that were made anew took over
+made_over : (old new : Trees) (tables : Content) → MayBeMade old × Hold old tables → Completes tables new → TakesOver old new
+made_over old new tables may it = record { taken = inr may.0; kept = subst (Hold old) (sym it.content) may.1; today = it.today }
 
-  -- store today's version
-  pub current : IsCurrent new
-  current = record {
-    office = it.office;
-    stored = λ h. (it.taken h).today.stored;
-    left = λ clean trees may. let h = it.opened clean in subst AreToday (sym (left_now trees h may)) (it.taken h).today;
-  }
+module _ {S : Type 0} (g : Ghosts S) (conn : Held S) where
+  abbrev old : State
+  old = state g conn
 
--- and are opened by a shelf over them
-pub opened_over : {S : Type 0} (g : Ghosts S) (conn c : Held S) → IsPrepared (state g conn) (state g c)
-    → ((trees : Trees) → IsTrue (state g c).is_open → (state g c).may_leave trees → trees ≡ (state g c).committed.trees)
-    → (shelf : SqlView S) → shelf.conn ≡ c → shelf.counts ≡ no_writes → IsOpened g conn shelf
-opened_over g conn c it settled shelf same none = subst (λ (it : SqlView _). IsOpened g conn it) (λ i. record { conn = sym same i; counts = sym none i }) (record {
-  opened = it.opened;
-  honest = it.was_clean;
-  taken = λ h. (it.taken h).taken;
-  kept = λ h. (it.taken h).kept;
-  stored = λ h. (it.taken h).today.stored;
-  schema = it.office.schema;
-  crash = λ h trees may. ap content_of (left_now (state g conn) (state g c) it settled trees h may);
-  unwritten = refl;
-})
-
--- ---- the office's tables, which were asked for their version
-
-module _ (old new : State) (settled : IsHonest old → old.now ≡ old.committed) (it : Keeps old new) (opened : IsOpenIfClean new) where
-  same : IsHonest new → new.now.trees ≡ old.committed.trees
-  same h = ap (λ (d : Database). d.trees) (it.same h ∙ settled (it.honest h))
-
-  still_committed : IsHonest new → new.committed.trees ≡ old.committed.trees
-  still_committed h = ap (λ (d : Database). d.trees) (sym (it.office.settled h)) ∙ same h
-
-  pub asked_again : (HasCleanDisk old → IsArranged old.committed.trees) → IsCheckedAgain old new
-  asked_again arranged = record {
-    autocommit = it.office.autocommit;
-    clean = it.crash.clean;
-    was_open = λ h. (it.honest (opened h)).1;
-    is_open = λ h. (opened h).1;
-    settled = λ h. it.office.settled (opened h);
-    kept = λ h. still_committed (opened h);
-    arranged = λ h. subst IsArranged (sym (still_committed (opened h))) (arranged (it.honest (opened h)).0);
-    crash = λ h trees may. elim (it.crash.crash h trees may) [ inl was ↦ was | inr none ↦ absurd none ];
-  }
-
-  -- today's version is stored in them
-  pub today_prepared : (IsHonest new → version_in old.now.trees ≡ Some current_version) → IsPrepared old new
-  today_prepared is = record {
-    office = it.office;
+  -- tables that took over, of which a crash leaves what is committed, are prepared
+  prepared : (c : Held S) → IsOffice (state g c) → IsOpenIfClean (state g c) → (IsHonest (state g c) → HasCleanDisk old) → (IsHonest (state g c) → TakesOver old.committed.trees (state g c).now.trees)
+      → ((trees : Trees) → IsTrue (state g c).is_open → (state g c).may_leave trees → trees ≡ (state g c).committed.trees) → IsPrepared g conn c
+  prepared c office opened honest takes settled = record {
     opened = opened;
-    was_clean = λ h. (it.honest h).0;
-    taken = λ h.
-        let sound = subst (λ schema. IsDatabase (record new.now { schema = schema })) (it.office.schema h) (it.office.sound h) in
-        let stored = ap (λ (d : Database). version_in d.trees) (it.same h) ∙ is h in
+    honest = honest;
+    takes = takes;
+    current = record { office = office; stored = λ h. (takes h).today.stored; left = λ clean trees may. let h = opened clean in subst AreToday (sym (left_now h trees may)) (takes h).today };
+    crash = λ h trees may. ap content_of (left_now h trees may);
+  }
+    where
+      left_now : IsHonest (state g c) → (trees : Trees) → (state g c).may_leave trees → trees ≡ (state g c).now.trees
+      left_now h trees may = settled trees h.1 may ∙ sym (ap (λ (d : Database). d.trees) (office.settled h))
+
+  -- ---- the office's tables, which were asked for their version
+  module _ (c : Held S) (settled : IsHonest old → old.now ≡ old.committed) (it : Keeps old (state g c)) (opened : IsOpenIfClean (state g c))
+      (stays : (trees : Trees) → IsTrue (state g c).is_open → (state g c).may_leave trees → trees ≡ (state g c).committed.trees) where
+    same : IsHonest (state g c) → (state g c).now.trees ≡ old.committed.trees
+    same h = ap (λ (d : Database). d.trees) (it.same h ∙ settled (it.honest h))
+
+    pub asked_found : IsAsFound g conn c.store
+    asked_found = record {
+      clean = it.crash.clean;
+      committed = λ clean up. ap (λ (d : Database). d.trees) (sym (it.office.settled (clean, up))) ∙ same (clean, up);
+      crash = λ clean trees may. elim (it.crash.crash clean trees may) [ inl was ↦ was | inr none ↦ absurd none ];
+    }
+
+    -- today's version is stored in them
+    pub today_prepared : (IsHonest (state g c) → Some current_version ≡ version_in old.now.trees) → IsPrepared g conn c
+    today_prepared is = prepared c it.office opened (λ h. (it.honest h).0) (λ h.
+        let new = state g c in
+        let today = are_today new (it.office.schema h) (it.office.sound h) (ap (λ (d : Database). version_in d.trees) (it.same h) ∙ sym (is h)) in
         subst (λ (was : Trees). TakesOver was new.now.trees) (same h) (record {
-          taken = inl stored;
-          kept = office_hold new.now.trees (content_now new) sound.lists.listed refl;
-          today = record { sound = sound; stored = stored };
-        });
+          taken = inl today.stored;
+          kept = office_hold new.now.trees (content_now new) today.sound.lists.listed refl;
+          today = today;
+        })) stays
+
+  -- ---- a store that was read since it was taken
+  module _ (store after : S) (it : IsTaken g conn store) (quiet : IsQuiet g.view g.faults g.recovers g.is_shielded store after) where
+    pub still_taken : (IsClean (g.view after) → IsUnchanged (g.view store) (g.view after)) → IsTaken g conn after
+    still_taken same = record {
+      clean = omega (arith, it.clean, quiet.clean);
+      was_open = λ h. it.was_open (omega (arith, h, quiet.clean));
+      fresh = λ h. let was = it.fresh (omega (arith, h, quiet.clean)) in subst IsFresh (sym (same h)) (record { sound = was.sound; numbered = was.numbered; clean = was.clean; unmarked = was.unmarked });
+      trees = λ h. ap (λ (v : View). v.trees) (same h) ∙ it.trees (omega (arith, h, quiet.clean));
+      crash = λ h trees may. it.crash (omega (arith, h, quiet.clean)) trees (quiet.outcomes trees may);
+      left = λ h. it.left (omega (arith, h, quiet.clean));
+      arranged = λ h. it.arranged (omega (arith, h, quiet.clean));
+    }
+
+    pub still_found : ((db : Trees) → IsTrue old.is_open → old.may_leave db → db ≡ old.committed.trees) → (IsTrue (g.view after).is_open → g.recovers after (g.view after).committed) → IsAsFound g conn after
+    still_found settled stays = record {
+      clean = omega (arith, it.clean, quiet.clean);
+      committed = λ h up. settled _ (it.was_open (omega (arith, h, quiet.clean))) (it.crash (omega (arith, h, quiet.clean)) _ (quiet.outcomes _ (stays up)));
+      crash = λ h trees may. it.crash (omega (arith, h, quiet.clean)) trees (quiet.outcomes trees may);
+    }
+
+  -- and opened again
+  pub again : (store : S) (new : Held S) → IsTaken g conn store → new.in_transaction ≡ false → doubt (g.view store).is_clean ≤ doubt (state g new).is_clean
+      → (HasCleanDisk (state g new) → Opens (state g new) × IsLive (state g new)) → (HasCleanDisk (state g new) → (state g new).now.trees ≡ (g.view store).trees)
+      → ((trees : Trees) → IsTrue (state g new).is_open → (state g new).may_leave trees → trees ≡ (state g new).committed.trees) → IsCheckedAgain g conn new
+  again store new it idle clean opens trees settled = record {
+    found = record {
+      clean = omega (arith, it.clean, clean);
+      committed = λ h up. same h;
+      crash = λ h left may. subst old.may_leave (sym (settled left (opens h).0.is_open may ∙ same h)) (it.left (omega (arith, h, clean)));
+    };
+    opened = λ h. (h, (opens h).0.is_open);
+    idle = idle;
+    settled = λ h. (opens h).0.clean;
+    arranged = λ h. subst IsArranged (sym (same h)) (it.arranged (omega (arith, h, clean)));
   }
+    where
+      same : HasCleanDisk (state g new) → (state g new).committed.trees ≡ old.committed.trees
+      same h = sym (ap (λ (d : Database). d.trees) (opens h).0.clean) ∙ trees h ∙ it.trees (omega (arith, h, clean))
 
--- ---- a database that was checked once more
+  -- ---- what came of another connection over the store, whose database was found the same
+  module _ (c : Held S) (found : IsAsFound g conn c.store) (opened : IsOpenIfClean (state g c)) (idle : c.in_transaction ≡ false) where
+    kept : HasCleanDisk (state g c) → (state g c).committed.trees ≡ old.committed.trees
+    kept h = found.committed h (opened h).1
 
-pub taken_still : (old : State) (view after : View) → IsTaken old view → doubt view.is_clean ≤ doubt after.is_clean → (IsClean after → IsUnchanged view after) → IsTaken old after
-taken_still old view after it clean same = record {
-  clean = omega (arith, it.clean, clean);
-  was_open = λ h. it.was_open (omega (arith, h, clean));
-  fresh = λ h. let was = it.fresh (omega (arith, h, clean)) in subst IsFresh (sym (same h)) (record { sound = was.sound; numbered = was.numbered; clean = was.clean; unmarked = was.unmarked });
-  trees = λ h. ap (λ (v : View). v.trees) (same h) ∙ it.trees (omega (arith, h, clean));
-  left = λ h. it.left (omega (arith, h, clean));
-  arranged = λ h. it.arranged (omega (arith, h, clean));
-}
+    pub prepares_before : (r : Result (Held S) (OpenFault × Result (Held S) S)) → Prepares g c r → Prepares g conn r
+    prepares_before (Ok last) it = record {
+      opened = it.opened;
+      honest = λ h. omega (arith, it.honest h, found.clean);
+      takes = λ h. subst (λ (t : Trees). TakesOver t (state g last).now.trees) (kept (it.honest h)) (it.takes h);
+      current = it.current;
+      crash = it.crash;
+    }
+    prepares_before (Err e) it =
+        let early : IsCleanStore g (store_left g e.1) → HasCleanDisk (state g c) = λ h. omega (arith, h, it.left.clean) in
+        record {
+          told = λ h. subst (Tells e.0) (kept (early h)) (it.told h);
+          left = record {
+            clean = omega (arith, it.left.clean, found.clean);
+            committed = λ h up. it.left.committed h up ∙ kept (early h);
+            crash = λ h trees may. elim (it.left.crash h trees may) [
+              | inl was ↦ inl (found.crash (early h) trees was)
+              | inr over ↦ inr (subst (λ (t : Trees). TakesOver t trees) (kept (early h)) over)
+            ];
+          };
+          idle = IfOk-weaker e.1 _ _ (λ h was. inl (elim was [ inl none ↦ none | inr is ↦ ap (λ (x : Held S). x.in_transaction) is ∙ idle ])) it.idle;
+        }
 
-pub again : (old new : State) (view : View) → IsTaken old view → new.in_transaction ≡ false → doubt view.is_clean ≤ doubt new.is_clean
-    → (HasCleanDisk new → Opens new × IsLive new) → (HasCleanDisk new → new.now.trees ≡ view.trees) → ((trees : Trees) → IsTrue new.is_open → new.may_leave trees → trees ≡ new.committed.trees)
-    → IsCheckedAgain old new
-again old new view it autocommit clean opens trees settled = record {
-  autocommit = autocommit;
-  clean = omega (arith, it.clean, clean);
-  was_open = λ h. it.was_open (omega (arith, h, clean));
-  is_open = λ h. (opens h).0.is_open;
-  settled = λ h. (opens h).0.clean;
-  kept = same;
-  arranged = λ h. subst IsArranged (sym (same h)) (it.arranged (omega (arith, h, clean)));
-  crash = λ h left may. subst old.may_leave (sym (settled left (opens h).0.is_open may ∙ same h)) (it.left (omega (arith, h, clean)));
-}
-  where
-    same : HasCleanDisk new → new.committed.trees ≡ old.committed.trees
-    same h = sym (ap (λ (d : Database). d.trees) (opens h).0.clean) ∙ trees h ∙ it.trees (omega (arith, h, clean))
+    pub opens_before : (r : Result (SqlView S) (OpenFault × Result (Held S) S)) → OpensShelf g c r → OpensShelf g conn r
+    opens_before (Ok shelf) it = (prepares_before (Ok shelf.conn) it.0, it.1)
+    opens_before (Err e) it = prepares_before (Err e) it
 
--- its tables, whose rows were read
-module _ (s : State) (settled : s.now ≡ s.committed) (live : IsDatabase s.now) where
-  pub read_listed : AreListed (s.committed.trees catalog_tree) s.now.schema
-  read_listed = subst (λ (d : Database). AreListed (d.trees catalog_tree) s.now.schema) settled live.lists.listed
+    -- in which the tables were made again
+    module _ (new : Held S) (tables : Content) (may : HasCleanDisk (state g c) → MayBeMade old.committed.trees × Hold old.committed.trees tables) where
+      pub made_prepared : {A E : Type 0} (done : A) → WritesToday {E = E} (Ok done) tables (state g c) (state g new)
+          → ((trees : Trees) → IsTrue (state g new).is_open → (state g new).may_leave trees → trees ≡ (state g new).committed.trees) → IsPrepared g conn new
+      made_prepared done it = prepared new it.office it.opened (λ h. omega (arith, (it.honest h).0, found.clean))
+          (λ h. made_over _ _ tables (may (it.honest h).0) (it.made h))
 
-  pub read_made : (eight : List Moved) → map part_moved eight ≡ eight_rows s.now.schema.tables s.committed.trees
-      → MayBeMade s.now.schema.tables (keeper_rows s.now.schema.tables s.committed.trees) (eight_rows s.now.schema.tables s.committed.trees)
-      → MayMake (all_put no_content (map part_moved eight)) s.committed.trees
-  read_made eight rows may = record {
-    may = elim may [ inl lack ↦ inr (s.now.schema, read_listed, lack) | inr none ↦ inl (s.now.schema, read_listed, none) ];
-    held = (s.now.schema, read_listed, ap (all_put no_content) rows ∙ moved_whole (rows_named s.now.schema.tables s.committed.trees));
-  }
+      pub made_refused : {A E : Type 0} (error : E) (why : OpenFault) → why ≢ fault.Version → why ≢ fault.Damaged → WritesToday {A = A} (Err error) tables (state g c) (state g new) → IsRefused g conn why (Ok new)
+      made_refused error why other sound it = record {
+        told = λ h. tells_none why _ other sound;
+        left = record {
+          clean = omega (arith, it.crash.clean, found.clean);
+          committed = λ h up. it.kept (h, up) ∙ kept (it.honest (h, up)).0;
+          crash = λ h trees may_be. elim (it.crash.crash h trees may_be) [
+            | inl was ↦ inl (found.crash (omega (arith, h, it.crash.clean)) trees was)
+            | inr made ↦ inr (made_over _ _ tables (may made.0.0) made.1)
+          ];
+        };
+        idle = inl it.idle;
+      }

@@ -1,38 +1,28 @@
 -- Rows that are put into the tables of the office as they were stored.
-use Rattle.std.proofs.Common.{◌≡◌, ℕ, true, true≢false, ◌&&◌, List, [], ◌∷◌, ◌++◌, map, length, Result, Ok, Err, refl, sym, ap, subst, ◌∙◌}
+use Rattle.std.proofs.Common.{◌≡◌, ℕ, true, true≢false, ◌&&◌, List, [], ◌∷◌, ◌++◌, map, length, refl, sym, ap, subst, ◌∙◌}
 use Rattle.std.proofs.lemmas.Bool.{and_parts, and_from}
-use Rattle.std.specs.Prelude.{OnOk, ⊤}
-use Rattle.sqlite.specs.{Order.Row, Order.column, State.State}
-use Rattle.sqlite.specs.declared.types.Value.{Value, TheVariants.Null, TheVariants.Int, TheVariants.Real, TheVariants.Text, TheVariants.Blob}
-use Rattle.sqlite.specs.Values.{bound_value}
+use Rattle.sqlite.specs.{Order.Row, Order.column, State.State, declared.types.Value.Value, declared.types.Value.TheVariants.Null, declared.types.Value.TheVariants.Int, declared.types.Value.TheVariants.Real, declared.types.Value.TheVariants.Text, declared.types.Value.TheVariants.Blob, Values.bound_value}
 use Rattle.sqlite_schema.specs.declared.{schema.Column.Column, schema.Kind.Kind}
-use Rattle.sqlite_schema.specs.declared.schema.Kind.TheVariants as kind
 use Rattle.office_tables_shelf.specs.Cells.{Cell, null, number, text, odd}
-use Rattle.office_tables_shelf.specs.Content.{Content}
-use Rattle.office_tables_shelf.specs.declared.rows.Table.{Table}
-use Rattle.office_tables_shelf.specs.declared.rows.Table.TheVariants as table
+use Rattle.office_tables_shelf.specs.{Content.Content, declared.rows.Table.Table}
 use Rattle.office_tables_statements.specs.{Layout.values_at, Calls.IsReady, Calls.IsTurned, Calls.Ran}
 use Rattle.office_tables_statements.specs.Stored.{are_sound, cell_of, cells, cells_at, content_now, is_sound}
 use Rattle.office_tables_statements.specs.Tables.{IsInsertText, layout_at, places_of, schema_at, suit, suits_kind, takes, value_of, values_of}
 use Rattle.office_tables_statements.proofs.{StoredPuts.inserts, TableLemmas.each}
-use Rattle.office_tables.specs.Moved.{all_put, part_moved, row_put, rows_put}
-use Rattle.office_tables.specs.declared.gather.Moved.{Moved}
+use Rattle.office_tables.specs.Moved.{all_put, row_put}
+use Rattle.sqlite_schema.specs.declared.schema.Kind.TheVariants as kind
+use Rattle.office_tables_shelf.specs.declared.rows.Table.TheVariants as table
 
 -- ---- values and their cells
 
 no_odd : (k : Kind) → suits_kind k odd ≡ true → ⊥
 no_odd kind.Integer h = true≢false (sym h)
-no_odd kind.Text h = true≢false (sym h)
-no_odd kind.Real h = true≢false (sym h)
-no_odd kind.Blob h = true≢false (sym h)
-no_odd kind.Any h = true≢false (sym h)
+no_odd _ h = true≢false (sym h)
 
 back_value : (k : Kind) (v : Value) → suits_kind k (cell_of v) ≡ true → value_of (cell_of v) ≡ v
-back_value k Null h = refl
-back_value k (Int n) h = refl
 back_value k (Real x) h = absurd (no_odd k h)
-back_value k (Text t) h = refl
 back_value k (Blob b) h = absurd (no_odd k h)
+back_value k _ h = refl
 
 back_values : (cs : List Column) (vs : Row) → length cs ≡ length vs → suit cs (cells vs) ≡ true → values_of (cells vs) ≡ vs
 back_values [] [] long h = refl
@@ -86,25 +76,12 @@ bound_row t row suited =
     sym joined ∙ ap (map bound_value) (sym back) ∙ bound_cells (cells (at t)) ∙ sym parted
 
 pub put_stored : (t : Table) (row : Row) → IsTold t row → IsSuited t row → (sql : List ℕ) → IsInsertText t sql → (params : Row) → params ≡ bound_at row (places_of t)
-    → (old new : State) (count : ℕ) → IsReady old → Ran sql params old new count → IsTurned (row_put t (content_now old) row) old new
+    → (old new : State) (count : ℕ) → IsReady old → Ran sql params old new count → IsTurned (row_put (content_now old) (t, row)) old new
 put_stored t row told suited sql means params is old new count ready ran =
     inserts t _ _ (taken t row told suited) sql means old new count ready (subst (λ ps. Ran sql ps old new count) (is ∙ bound_row t row suited) ran)
 
 -- ---- one row after another, from the last one
 
-pub last_row : (t : Table) (base : Content) (rows : List Row) (row : Row) → rows_put t base (rows ++ row ∷ []) ≡ rows_put t (row_put t base row) rows
-last_row t base [] row = refl
-last_row t base (r ∷ rows) row = ap (λ c. row_put t c r) (last_row t base rows row)
-
-pub last_moved : (base : Content) (all : List Moved) (moved : Moved) → all_put base (map part_moved (all ++ moved ∷ [])) ≡ all_put (rows_put moved.table base moved.rows.items) (map part_moved all)
-last_moved base [] moved = refl
-last_moved base (m ∷ all) moved = ap (λ c. rows_put m.table c m.rows.items) (last_moved base all moved)
-
--- a step that goes on from another one
-pub turned_then : {E : Type 0} (r : Result ⊤ E) (old mid new : State) (first last : Content) → (IsReady old → IsTurned first old mid) → OnOk r (IsReady mid → IsTurned last mid new) → {all : Content} → (IsTurned first old mid → last ≡ all)
-    → OnOk r (IsReady old → IsTurned all old new)
-turned_then (Ok x) old mid new first last one two same = λ ready.
-    let was = one ready in
-    let then = two was.ready in
-    record { ready = then.ready; content = then.content ∙ same was; version = then.version ∙ was.version }
-turned_then (Err e) old mid new first last one two same = tt
+pub last_row : (base : Content) (rows : List (Table × Row)) (row : Table × Row) → all_put base (rows ++ row ∷ []) ≡ all_put (row_put base row) rows
+last_row base [] row = refl
+last_row base (r ∷ rows) row = ap (λ c. row_put c r) (last_row base rows row)

@@ -1,21 +1,17 @@
 -- The stored version and its statements.
-use Rattle.std.proofs.Common.{◌≡◌, ℕ, [], ◌∷◌, length, codes, refl, sym, ap, subst, ◌∙◌, cond, Option, Some, IfSome, option_map, pos}
+use Rattle.std.proofs.Common.{◌≡◌, ℕ, [], ◌∷◌, length, codes, refl, sym, ap, subst, ◌∙◌, cond, Option, None, Some, option_map, pos, ℤ, arith}
 use Rattle.std.specs.{Option.option_to_list, FinMap.get, FinMap.insert, FinMap.get-insert}
-use Rattle.sqlite.specs.{Command.TheVariants.Select, Command.TheVariants.Insert, Command.TheVariants.Delete, Effect.Database, Effect.IsDatabase, Order.Row, Cast.cast_row, Source.Source, State.State, Source.TheVariants.Values, Term.lit, Term.col, View.IsShaped}
-use Rattle.sqlite.specs.declared.types.Value.TheVariants.{Null, Int}
+use Rattle.sqlite.specs.{Command.TheVariants.Select, Command.TheVariants.Insert, Command.TheVariants.Delete, Effect.Database, Effect.IsDatabase, Order.Row, Order.column, Cast.cast_row, Source.Source, State.State, Source.TheVariants.Values, Term.lit, Term.col, View.IsShaped, declared.types.Value.TheVariants.Null, declared.types.Value.TheVariants.Int}
 use Rattle.sqlite_tied.specs.Compute.{everything}
-use Rattle.office_tables_statements.specs.Layout as layout
 use Rattle.office_tables_shelf.specs.{Cells.number}
-use Rattle.office_tables_statements.specs.{Stored.rows_in, Stored.cells, Stored.rows_stored, Stored.content_now, Calls.Means, Calls.Reads, Calls.IsReady, Calls.Ran, Tables.found_by, Layout.office_version}
-use Rattle.office_tables_statements.specs.Schema.{office_schema, version_table}
-use Rattle.office_tables_sql.specs.Version.{version_in, current_version}
-use Rattle.office_tables.specs.Opening.{IsMade}
-use Rattle.office_tables_statements.proofs.QueryLemmas.{AreShaped, found_by_key, has_width}
+use Rattle.office_tables_statements.specs.{Stored.rows_in, Stored.cell_of, Stored.cells, Stored.rows_stored, Stored.content_now, Calls.Means, Calls.Reads, Calls.IsReady, Calls.Ran, Tables.found_by, Layout.office_version, Schema.office_schema, Schema.version_table}
+use Rattle.office_tables_sql.specs.Version.{AreToday, version_in, current_version}
+use Rattle.office_tables.specs.{Opening.IsMade, declared.version.TheConstants.FIND as FIND_VERSION, declared.version.TheConstants.DROP as DROP_VERSION, declared.version.TheConstants.PUT as PUT_VERSION}
+use Rattle.office_tables_statements.proofs.{QueryLemmas.AreShaped, QueryLemmas.found_by_key, QueryLemmas.has_width, StoredLemmas.get_columns, StoredLemmas.sound_rowids, Casts.cast_int, Casts.cast_null, StoredLists.rowids_distinct, ContentLemmas.tie_self, ContentLemmas.put_at, TableLemmas.apart, TableLemmas.none_in}
 use Rattle.office_tables_statements.proofs.WriteLemmas.{Added, adds, cut, IsIdle, wrote}
-use Rattle.office_tables_statements.proofs.{StoredLemmas.get_columns, StoredLemmas.sound_rowids, Casts.cast_int, Casts.cast_null, StoredLists.rowids_distinct, ContentLemmas.tie_self, ContentLemmas.put_at, TableLemmas.apart, TableLemmas.none_in}
-use Rattle.sqlite_trees.specs.declared.store.Shape.TheVariants as shape
 use Rattle.office_tables_shelf.proofs.CellLemmas.{cells_total}
-use Rattle.office_tables.specs.declared.version.TheConstants.{FIND as FIND_VERSION, DROP as DROP_VERSION, PUT as PUT_VERSION}
+use Rattle.office_tables_statements.specs.Layout as layout
+use Rattle.sqlite_trees.specs.declared.store.Shape.TheVariants as shape
 
 pub find_version_is : Means FIND_VERSION.now (Select (record { lets = []; body = found_by office_version office_version.columns }) (codes "version" ∷ []))
 unfolding everything
@@ -29,7 +25,7 @@ pub drop_version_is : Means DROP_VERSION.now (Delete 8 (record { lets = []; body
 unfolding everything
 drop_version_is = refl
 
-pub find_version : (db : Database) → AreShaped db.trees office_version → (row : Option Row) → Reads FIND_VERSION.now (Int (pos 1) ∷ []) db (option_to_list row) → option_map cells row ≡ version_in db.trees
+find_version : (db : Database) → AreShaped db.trees office_version → (row : Option Row) → Reads FIND_VERSION.now (Int (pos 1) ∷ []) db (option_to_list row) → option_map cells row ≡ version_in db.trees
 find_version db shaped row reads =
     let rows = db.trees 15 in
     ap (option_map cells) (found_by_key office_version tt office_version.columns FIND_VERSION.now _
@@ -37,9 +33,23 @@ find_version db shaped row reads =
     ∙ sym (get_columns office_version rows (Int (pos 1) ∷ [])
     (sound_rowids office_version refl rows shaped) refl)
 
-pub version_width : (db : Database) (row : Option Row) → Reads FIND_VERSION.now (Int (pos 1) ∷ []) db (option_to_list row) → IfSome row (λ r. length r ≡ 1)
-version_width db = has_width office_version tt office_version.columns FIND_VERSION.now _
-    find_version_is (Int (pos 1) ∷ []) db (db.trees 15) refl
+one_cell : (row : Row) (n : ℤ) → length row ≡ 1 → column row 0 ≡ Int n → cells row ≡ number n ∷ []
+one_cell [] n width is = absurd (omega arith)
+one_cell (v ∷ []) n width is = ap (λ v. cell_of v ∷ []) is
+one_cell (v ∷ w ∷ row) n width is = absurd (omega arith)
+
+-- the row that shows the stored version, as its number
+pub number_found : (db : Database) → AreShaped db.trees office_version → (row : Row) (n : ℤ) → Reads FIND_VERSION.now (Int (pos 1) ∷ []) db (row ∷ []) → column row 0 ≡ Int n → Some (number n ∷ []) ≡ version_in db.trees
+number_found db shaped row n reads is =
+    let width = has_width office_version tt office_version.columns FIND_VERSION.now _ find_version_is (Int (pos 1) ∷ []) db (db.trees 15) refl (Some row) reads in
+    ap Some (sym (one_cell row n width is)) ∙ find_version db shaped (Some row) reads
+
+pub none_found : (db : Database) → AreShaped db.trees office_version → Reads FIND_VERSION.now (Int (pos 1) ∷ []) db [] → None ≡ version_in db.trees
+none_found db shaped reads = find_version db shaped None reads
+
+-- the office's tables that store today's version
+pub are_today : (s : State) → s.now.schema ≡ office_schema → IsDatabase s.now → version_in s.now.trees ≡ Some current_version → AreToday s.now.trees
+are_today s is sound stored = record { sound = subst (λ schema. IsDatabase (record s.now { schema = schema })) is sound; stored = stored }
 
 -- ---- what is stored
 
@@ -90,6 +100,6 @@ renewed old mid new dropped put ready first last =
       ready = it.0;
       completes = record {
         content = it.1.0 ∙ without.1;
-        today = record { sound = subst (λ schema. IsDatabase (record new.now { schema = schema })) it.0.schema it.0.sound; stored = it.1.1 };
+        today = are_today new it.0.schema it.0.sound it.1.1;
       };
     }

@@ -4,7 +4,6 @@ pub mod Found
 pub mod Moved
 pub mod Opening
 pub mod Rewritten
-pub mod Listing
 pub mod Migrate
 pub mod Migration
 pub use Rattle.office_tables_shelf.specs.Content

@@ -1,14 +1,9 @@
 -- What a shelf over SQL shows: its connection and its counts.
 use Rattle.std.specs.Prelude.{◌≡◌, Some, refl}
 use Rattle.std.specs.Coded.{Coded, code_by, coded×}
-use Rattle.sqlite.specs.Held.{Held, held_code}
-use Rattle.sqlite.specs.State.{State, HasCleanDisk}
-use Rattle.sqlite.specs.Tree.{Trees}
-use Rattle.office_tables_shelf.specs.Content.{Content}
-use Rattle.office_tables_shelf.specs.Counts.{counts_code}
-use Rattle.office_tables_shelf.specs.declared.counts.WriteCounts.{WriteCounts}
-use Rattle.office_tables_statements.specs.Calls.{IsHonest, IsOffice}
-use Rattle.office_tables_statements.specs.Stored.{content_of}
+use Rattle.sqlite.specs.{Held.Held, Held.held_code, State.State, State.HasCleanDisk, Tree.Trees}
+use Rattle.office_tables_shelf.specs.{Content.Content, Counts.counts_code, declared.counts.WriteCounts.WriteCounts}
+use Rattle.office_tables_statements.specs.{Calls.IsHonest, Calls.IsOffice, Stored.content_of}
 use Rattle.office_tables_sql.specs.Version.{AreToday, version_in, current_version}
 
 -- what is seen of a shelf: the connection, and how often the rows of each table were written over it

@@ -1,20 +1,15 @@
 //! What a database holds whose tables are the office's in another layout.
 
-ghost use Rattle.std.specs.Prelude.{◌≡◌, ◌≢◌, ◌∷◌, None, Some, Err, [], map, pos, IsTrue, IfOk, IfErr, IfSome, OnOk};
+ghost use Rattle.std.specs.Prelude.{◌≡◌, ◌≢◌, ◌≤◌, ◌∷◌, Some, [], map, pos, IsTrue, IfOk, IfErr, IfSome, OnOk, MatchResult};
 ghost use Rattle.std.specs.List.{AllByRecursion};
-ghost use Rattle.sqlite.specs.Held.{state};
-ghost use Rattle.sqlite.specs.State.{HasCleanDisk};
-ghost use Rattle.sqlite_trees.specs.View.{IsClean, IsQuiet};
-ghost use Rattle.sqlite_value.specs.Value.{owned};
-ghost use Rattle.sqlite_value.specs.declared.value.Value.TheVariants.{Int};
+ghost use Rattle.sqlite.specs.{Held.Held, Held.state, State.HasCleanDisk, Steps.IsFresh};
+ghost use Rattle.sqlite_trees.specs.View.{IsClean, IsQuiet, doubt};
+ghost use Rattle.sqlite_value.specs.{Value.owned, declared.value.Value.TheVariants.Int};
 ghost use Rattle.office_tables_shelf.specs.Cells.{number};
-ghost use Rattle.office_tables_shelf.specs.Content.{no_content};
-ghost use Rattle.office_tables.specs.Arranged.{IsUnchanged, IsTaken, IsCheckedAgain};
-ghost use Rattle.office_tables.specs.Found.{HaveNoRow, IsOurs, IsVersionKeeper, KeepVersion, MayBeMade, TellsHeld, HasOtherVersion, HasRowsAlone, eight_rows, keeper_rows};
-ghost use Rattle.office_tables.specs.Moved.{all_put, part_moved};
-ghost use Rattle.office_tables.specs.Opening.{IsAsFound, MayMake};
-ghost use Rattle.office_tables_sql.specs.Promises.{IsSettled};
-ghost use Rattle.office_tables_sql.specs.Version.{version_of};
+ghost use Rattle.office_tables.specs.Arranged.{IsUnchanged};
+ghost use Rattle.office_tables.specs.Found.{IsOurs, IsVersionKeeper, KeepVersion, Tell};
+ghost use Rattle.office_tables.specs.Opening.{ChecksAgain, Finds, FindsIn, IsAsFound, IsCheckedAgain, IsTaken};
+ghost use Rattle.office_tables_sql.specs.{Promises.IsSettled, Version.version_of};
 
 use crate::gather::{CHILDREN_FIRST, Moved, gather, read_named};
 use crate::open::OpenFault;
@@ -36,22 +31,14 @@ pub const KEEPER: &str = "office_version";
 /// The columns of `office_version`: the number 1, which is its rowid, and the version.
 const COLUMNS: [&str; 2] = ["one", "version"];
 
-fn are_ours(tables: &[Table]) -> bool
-    ensures { IsTrue result → AllByRecursion (λ t. IsOurs t.name) tables.now }
-{
-    let Some((table, tables)) = tables.split_first() else {
-        return true;
-    };
-    is_name(table.name.as_slice()) && are_ours(tables)
-}
-
 /// Whether each table of a database has one of the office's nine names, and there is no view.
 /// Tables may be missing, and their columns are not looked at.
 pub fn has_only_ours(schema: &Schema) -> bool
     ensures named { IsTrue result → AllByRecursion (λ t. IsOurs t.name) schema.now.tables }
     ensures no_views { IsTrue result → schema.now.views ≡ [] }
 {
-    schema.views.is_empty() && are_ours(schema.tables.as_slice())
+    let tables = schema.tables.as_slice();
+    schema.views.is_empty() && tables.iter().all(|table| is_name(table.name.as_slice()))
 }
 
 fn are_named(columns: &[Column], names: &[&str]) -> bool
@@ -78,11 +65,10 @@ fn keeps_version(table: &Table) -> bool
 fn keep_version(tables: &[Table]) -> bool
     ensures { IsTrue result → KeepVersion tables.now }
 {
-    let Some((table, tables)) = tables.split_first() else {
-        return true;
-    };
-    let is_keeper = same_name(table.name.as_slice(), KEEPER.as_bytes());
-    (!is_keeper || keeps_version(table)) && keep_version(tables)
+    tables.iter().all(|table| {
+        let is_keeper = same_name(table.name.as_slice(), KEEPER.as_bytes());
+        !is_keeper || keeps_version(table)
+    })
 }
 
 fn is_one(value: ValueRef<'_>) -> bool
@@ -118,28 +104,15 @@ fn stored_number(rows: &[Row]) -> Option<i64>
     None
 }
 
-fn have_no_row(eight: &[Moved]) -> bool
-    ensures all { IsTrue result → HaveNoRow (map part_moved eight.now) }
-    ensures some { ¬ IsTrue result → ¬ HaveNoRow (map part_moved eight.now) }
-{
-    let Some((first, eight)) = eight.split_first() else {
-        return true;
-    };
-    first.rows.is_empty() && have_no_row(eight)
-}
-
 /// Why tables are not made anew, by the rows of `office_version` and those of the office's eight
 /// other tables: `Damaged` where the eight have a row and there is no version, `Version` where
 /// another version than today's is stored, `Store` where `office_version` has other columns or
 /// stores no number, or the tables are not the office's. None where they may be made.
 fn refusal(tables: &[Table], version: &[Row], eight: &[Moved]) -> Option<OpenFault>
-    ensures made { result ≡ None →
-        MayBeMade tables.now version.now (map part_moved eight.now) }
-    ensures told { IfSome result (λ why.
-        TellsHeld why tables.now version.now (map part_moved eight.now)) }
+    ensures { Tell result tables.now version.now eight.now }
 {
     if version.is_empty() {
-        if have_no_row(eight) {
+        if eight.is_empty() {
             return None;
         }
         return Some(OpenFault::Damaged);
@@ -150,7 +123,7 @@ fn refusal(tables: &[Table], version: &[Row], eight: &[Moved]) -> Option<OpenFau
     let Some(number) = stored_number(version) else {
         return Some(OpenFault::Store);
     };
-    if number != i64::from(VERSION) {
+    if number != VERSION {
         return Some(OpenFault::Version);
     }
     if !are_of_office(tables) {
@@ -160,18 +133,13 @@ fn refusal(tables: &[Table], version: &[Row], eight: &[Moved]) -> Option<OpenFau
 }
 
 /// The rows of tables that may be made anew, or why they are not.
-pub(crate) type Looked = Result<Vec<Moved>, OpenFault>;
+pub(crate) type Found = Result<Vec<Moved>, OpenFault>;
 
 /// Reads the rows of `office_version` and of the office's eight other tables: gives those of the
 /// eight, if they may be made anew, or why not. The error is the store's, or want of memory.
-fn look<S: Store>(alloc: Global, store: &mut S, tables: &[Table]) -> Result<Looked, StoreError>
-    ensures made { IsClean (S.Store.view store.new) → IfOk result (λ looked. IfOk looked (λ eight.
-        (map part_moved eight.items ≡ eight_rows tables.now (S.Store.view store.old).trees)
-        × MayBeMade tables.now (keeper_rows tables.now (S.Store.view store.old).trees)
-        (eight_rows tables.now (S.Store.view store.old).trees))) }
-    ensures told { IsClean (S.Store.view store.new) → IfOk result (λ looked. IfErr looked (λ why.
-        TellsHeld why tables.now (keeper_rows tables.now (S.Store.view store.old).trees)
-        (eight_rows tables.now (S.Store.view store.old).trees))) }
+fn look<S: Store>(alloc: Global, store: &mut S, tables: &[Table]) -> Result<Found, StoreError>
+    ensures finds { IsClean (S.Store.view store.new) →
+        IfOk result (FindsIn tables.now (S.Store.view store.old).trees) }
     ensures same { IsClean (S.Store.view store.new) →
         OnOk result (IsUnchanged (S.Store.view store.old) (S.Store.view store.new)) }
     ensures quiet { IsQuiet S.Store.view S.Store.faults S.Store.recovers S.Store.is_shielded
@@ -188,16 +156,29 @@ fn look<S: Store>(alloc: Global, store: &mut S, tables: &[Table]) -> Result<Look
 
 /// The store of a connection that is given up, as the last commit left it. It is the error where a
 /// failure has broken it.
-fn store_of<S: Alter + Drop>(conn: Connection<S>) -> Result<S, S>
-    ensures taken { IfOk result (λ s. IsTaken (state S.Store conn) (S.Store.view s)) }
-    ensures found { IfOk result (IsAsFound S.Store conn) }
-    ensures left { IfErr result (IsAsFound S.Store conn) }
+fn store_of<S: Alter + Drop>(conn: Connection<S>) -> Result<S, (SqlFault, S)>
+    ensures taken { IfOk result (IsTaken S.Store conn) }
+    ensures left { IfErr result (λ e. IsAsFound S.Store conn e.1) }
 {
     let store = conn.into_store();
     if store.is_broken() {
-        return Err(store);
+        return Err((SqlFault::Store, store));
     }
     Ok(store)
+}
+
+/// Opens a store once more, which reads and checks the whole database.
+fn open_again<S: Alter + Drop>(alloc: Global, store: S) -> Result<Connection<S>, (SqlFault, S)>
+    requires { IsClean (S.Store.view store) → IsFresh (S.Store.view store) }
+    ensures clean { IfOk result (λ c.
+        doubt (S.Store.view store).is_clean ≤ doubt (state S.Store c).is_clean) }
+    ensures again { (conn : Held S) → IsTaken S.Store conn store →
+        ChecksAgain S.Store conn result }
+{
+    match Connection::over(alloc, store) {
+        Ok(conn) => Ok(conn),
+        Err((error, store)) => Err((SqlFault::from(error), store)),
+    }
 }
 
 /// Opens the store of a connection once more, which reads and checks the whole database, so that
@@ -208,17 +189,9 @@ pub fn check_again<S: Alter + Drop>(
     alloc: Global,
     conn: Connection<S>,
 ) -> Result<Connection<S>, (SqlFault, S)>
-    ensures again { IfOk result (λ c. IsCheckedAgain (state S.Store conn) (state S.Store c)) }
-    ensures left { IfErr result (λ e. IsAsFound S.Store conn e.1) }
+    ensures { ChecksAgain S.Store conn result }
 {
-    let store = match store_of(conn) {
-        Ok(store) => store,
-        Err(store) => return Err((SqlFault::Store, store)),
-    };
-    match Connection::over(alloc, store) {
-        Ok(conn) => Ok(conn),
-        Err((error, store)) => Err((SqlFault::from(error), store)),
-    }
+    open_again(alloc, store_of(conn)?)
 }
 
 fn fault_of(error: StoreError) -> SqlFault {
@@ -235,32 +208,22 @@ fn fault_of(error: StoreError) -> SqlFault {
 pub(crate) fn read_again<S: Alter + Drop>(
     alloc: Global,
     conn: Connection<S>,
-) -> Result<(Looked, Connection<S>), (SqlFault, S)>
+) -> Result<(Found, Connection<S>), (SqlFault, S)>
     requires { IsSettled (state S.Store conn) }
-    ensures again { IfOk result (λ f. IsCheckedAgain (state S.Store conn) (state S.Store f.1)) }
-    ensures made { IfOk result (λ f. HasCleanDisk (state S.Store f.1) → IfOk f.0 (λ eight.
-        MayMake (all_put no_content (map part_moved eight.items))
-        (state S.Store conn).committed.trees)) }
-    ensures version { IfOk result (λ f. HasCleanDisk (state S.Store f.1) →
-        f.0 ≡ Err OpenFault.Version → HasOtherVersion (state S.Store conn).committed.trees) }
-    ensures damaged { IfOk result (λ f. HasCleanDisk (state S.Store f.1) →
-        f.0 ≡ Err OpenFault.Damaged → HasRowsAlone (state S.Store conn).committed.trees) }
-    ensures left { IfErr result (λ e. IsAsFound S.Store conn e.1) }
+    ensures again { MatchResult result (λ f. IsCheckedAgain S.Store conn f.1)
+        (λ e. IsAsFound S.Store conn e.1) }
+    ensures finds { IfOk result (λ f. HasCleanDisk (state S.Store f.1) →
+        Finds f.0 (state S.Store conn).committed.trees) }
 {
     let copied = conn.schema().copy(alloc);
-    let mut store = match store_of(conn) {
-        Ok(store) => store,
-        Err(store) => return Err((SqlFault::Store, store)),
-    };
+    let mut store = store_of(conn)?;
     let Ok(schema) = copied else {
         return Err((SqlFault::NoMemory, store));
     };
-    let told = match look(alloc, &mut store, schema.tables.as_slice()) {
-        Ok(told) => told,
+    let found = match look(alloc, &mut store, schema.tables.as_slice()) {
+        Ok(found) => found,
         Err(error) => return Err((fault_of(error), store)),
     };
-    match Connection::over(alloc, store) {
-        Ok(conn) => Ok((told, conn)),
-        Err((error, store)) => Err((SqlFault::from(error), store)),
-    }
+    let conn = open_again(alloc, store)?;
+    Ok((found, conn))
 }

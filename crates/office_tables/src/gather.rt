@@ -3,8 +3,7 @@
 
 ghost use Rattle.std.specs.Prelude.{◌≡◌, ◌++◌, map, IfOk, OnOk};
 ghost use Rattle.sqlite_trees.specs.View.{IsClean, IsQuiet};
-ghost use Rattle.office_tables.specs.Arranged.{IsUnchanged};
-ghost use Rattle.office_tables.specs.Moved.{part_moved, rows_named, moved_from};
+ghost use Rattle.office_tables.specs.{Arranged.IsUnchanged, Moved.rows_named, Moved.moved_from};
 
 use office_tables_shelf::rows::Table;
 use office_tables_statements::tables::name_of;
@@ -17,13 +16,8 @@ use sqlite_trees::store::Store;
 use sqlite_value::row::Row;
 use std::alloc::Global;
 
-/// One of the office's tables, but for `office_version`, and its rows as they are stored, each with
-/// its rowid first.
-#[derive(Drop)]
-pub struct Moved {
-    pub table: Table,
-    pub rows: Vec<Row>,
-}
+/// A stored row of one of the office's tables beside `office_version`, with its rowid first.
+pub(crate) type Moved = (Table, Row);
 
 /// The office's eight tables beside `office_version`, those first that refer to others.
 pub const CHILDREN_FIRST: [Table; 8] = [
@@ -62,8 +56,19 @@ pub(crate) fn read_named<S: Store>(
     read_named(alloc, store, tables, name)
 }
 
-/// Appends each of the tables `homes`, in order, with the rows that stand under its name; a table
-/// that is missing has none. The error is the store's, or want of memory.
+/// Appends rows, each with its table.
+fn append(table: Table, rows: Vec<Row>, moved: &mut Vec<Moved>) -> Result<(), StoreError>
+    ensures { OnOk result (
+        moved.new.items ≡ moved.old.items ++ map (λ row. (table, row)) rows.items) }
+{
+    for row in rows {
+        moved.push((table, row))?;
+    }
+    Ok(())
+}
+
+/// Appends the rows that stand under the name of each of the tables `homes`, in order; a table that
+/// is missing has none. The error is the store's, or want of memory.
 pub(crate) fn gather<S: Store>(
     alloc: Global,
     store: &mut S,
@@ -71,8 +76,8 @@ pub(crate) fn gather<S: Store>(
     homes: &[Table],
     moved: &mut Vec<Moved>,
 ) -> Result<(), StoreError>
-    ensures rows { IsClean (S.Store.view store.new) → OnOk result (
-        map part_moved moved.new.items ≡ map part_moved moved.old.items
+    ensures rows { IsClean (S.Store.view store.new) → OnOk result (moved.new.items ≡
+        moved.old.items
         ++ moved_from homes.now (rows_named tables.now (S.Store.view store.old).trees)) }
     ensures same { IsClean (S.Store.view store.new) →
         OnOk result (IsUnchanged (S.Store.view store.old) (S.Store.view store.new)) }
@@ -82,8 +87,7 @@ pub(crate) fn gather<S: Store>(
     let Some((table, homes)) = homes.split_first() else {
         return Ok(());
     };
-    let table = *table;
-    let rows = read_named(alloc, store, tables, name_of(table))?;
-    moved.push(Moved { table, rows })?;
+    let rows = read_named(alloc, store, tables, name_of(*table))?;
+    append(*table, rows, moved)?;
     gather(alloc, store, tables, homes, moved)
 }

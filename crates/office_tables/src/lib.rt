@@ -5,7 +5,6 @@
 
 pub mod found;
 mod gather;
-mod listing;
 mod migrate;
 pub mod open;
 mod refill;

@@ -1,21 +1,17 @@
 //! Opening the tables of the office.
 
-ghost use Rattle.std.specs.Prelude.{◌≡◌, true, false, map, Err, IfOk, IfErr, OnOk};
-ghost use Rattle.sqlite.specs.State.{HasCleanDisk, Survives};
-ghost use Rattle.sqlite.specs.Held.{state};
+ghost use Rattle.std.specs.Prelude.{◌≡◌, true, false, map, Ok, Err, IsTrue, OnOk};
+ghost use Rattle.sqlite.specs.{State.HasCleanDisk, Held.state};
 ghost use Rattle.office_tables_shelf.specs.Content.{no_content};
-ghost use Rattle.office_tables_statements.specs.Calls.{IsHonest, IsOffice, StandsOn, StaysOpen};
-ghost use Rattle.office_tables.specs.Moved.{all_put, part_moved};
-ghost use Rattle.office_tables.specs.Opening.{AreOurs, AreRun, IsMade, IsOpened, IsRefused};
-ghost use Rattle.office_tables_sql.specs.Promises.{IsSettled, KeepsCommitted, WasHonest};
-ghost use Rattle.office_tables.specs.Arranged.{IsArrangedIfClean};
-ghost use Rattle.office_tables_sql.specs.Version.{Completes};
+ghost use Rattle.office_tables_statements.specs.Calls.{IsHonest, StandsOn};
+ghost use Rattle.office_tables.specs.{Moved.all_put, Arranged.IsArrangedIfClean};
+ghost use Rattle.office_tables.specs.Opening.{AreOurs, AreRun, Prepares, TurnsToday, WritesToday};
+ghost use Rattle.office_tables_sql.specs.Promises.{IsSettled};
 
 use crate::found::{has_only_ours, read_again};
 use crate::gather::Moved;
 use crate::refill::put_all;
-use crate::sql_shelf::SqlShelf;
-use crate::version::{is_today, renew_version};
+use crate::version::{VERSION, renew_version, stored_version};
 use office_tables_shelf::shelf::ShelfFault;
 use office_tables_statements::schema::{CREATES, is_office};
 use office_tables_statements::statement::SqlFault;
@@ -45,10 +41,7 @@ impl From<SqlFault> for OpenFault {
     ghost from_gives = { λ _ fault. (fault ≢ open_fault.Version) × (fault ≢ open_fault.Damaged) };
 
     fn from(fault: SqlFault) -> OpenFault {
-        match fault {
-            SqlFault::NoMemory => OpenFault::NoMemory,
-            SqlFault::Store => OpenFault::Store,
-        }
+        OpenFault::from(ShelfFault::from(fault))
     }
 }
 
@@ -91,10 +84,11 @@ fn run_all<S: Alter>(tx: &mut Transaction<'_, S>, texts: &[&str]) -> Result<(), 
         OnOk result (AreRun S.Store (map (λ text. text.now) texts.now)
         tx.old.conn.now tx.new.conn.now) }
 {
-    for sql in texts {
-        tx.execute(sql, &[])?;
-    }
-    Ok(())
+    let Some((sql, texts)) = texts.split_first() else {
+        return Ok(());
+    };
+    tx.execute(sql, &[])?;
+    run_all(tx, texts)
 }
 
 /// Drops the office's tables, makes all of them in the order of their numbers, puts the rows into
@@ -102,20 +96,14 @@ fn run_all<S: Alter>(tx: &mut Transaction<'_, S>, texts: &[&str]) -> Result<(), 
 fn make_again<S: Alter>(
     alloc: Global,
     tx: &mut Transaction<'_, S>,
-    eight: Vec<Moved>,
+    rows: Vec<Moved>,
 ) -> Result<(), SqlFault>
-    ensures same_reference { tx.new.conn.ghost_name ≡ tx.old.conn.ghost_name }
-    ensures stands { StandsOn (state S.Store tx.old.conn.now) (state S.Store tx.new.conn.now) }
-    ensures honest { WasHonest result (state S.Store tx.old.conn.now)
-        (state S.Store tx.new.conn.now) }
-    ensures made { HasCleanDisk (state S.Store tx.new.conn.now) →
-        tx.old.conn.now.in_transaction ≡ true → AreOurs (state S.Store tx.old.conn.now).now →
-        OnOk result (IsMade (all_put no_content (map part_moved eight.items))
-        (state S.Store tx.new.conn.now)) }
+    ensures { TurnsToday S.Store result (λ s. IsTrue s.in_transaction × AreOurs s.now)
+        (all_put no_content rows.items) tx.old tx.new }
 {
     run_all(tx, &DROPS)?;
     run_all(tx, &CREATES)?;
-    put_all(alloc, tx, eight)?;
+    put_all(alloc, tx, rows)?;
     renew_version(tx)?;
     Ok(())
 }
@@ -124,23 +112,15 @@ fn make_again<S: Alter>(
 fn make_tables<S: Alter>(
     alloc: Global,
     conn: &mut Connection<S>,
-    eight: Vec<Moved>,
+    rows: Vec<Moved>,
 ) -> Result<(), SqlFault>
     requires autocommit { (state S.Store conn.old).in_transaction ≡ false }
     requires ours { IsHonest (state S.Store conn.old) → AreOurs (state S.Store conn.old).now }
-    ensures office { OnOk result (IsOffice (state S.Store conn.new)) }
-    ensures open { StaysOpen result (state S.Store conn.new) }
-    ensures autocommit { (state S.Store conn.new).in_transaction ≡ false }
-    ensures honest { IsHonest (state S.Store conn.new) → IsHonest (state S.Store conn.old) }
-    ensures made { IsHonest (state S.Store conn.new) → OnOk result (Completes
-        (all_put no_content (map part_moved eight.items)) (state S.Store conn.new).now.trees) }
-    ensures kept { KeepsCommitted result (state S.Store conn.old) (state S.Store conn.new) }
-    ensures crash { Survives (state S.Store conn.old) (state S.Store conn.new)
-        (λ trees. IsHonest (state S.Store conn.old)
-        × Completes (all_put no_content (map part_moved eight.items)) trees) }
+    ensures { WritesToday result (all_put no_content rows.items)
+        (state S.Store conn.old) (state S.Store conn.new) }
 {
     let mut tx = conn.transaction();
-    make_again(alloc, &mut tx, eight)?;
+    make_again(alloc, &mut tx, rows)?;
     tx.commit()?;
     Ok(())
 }
@@ -152,62 +132,56 @@ pub type Left<S> = Result<Connection<S>, S>;
 /// Why tables were refused, and what is left of the database.
 pub type Refused<S> = (OpenFault, Left<S>);
 
-/// A shelf over the tables of a database, which are made again with the rows that they have and
-/// today's version. It does so where today's version is stored in tables that are the office's but
-/// for their numbers, or where no version is stored and no table has a row; else it refuses.
+/// The tables of a database, which are made again with the rows that they have and today's version.
+/// It does so where today's version is stored in tables that are the office's but for their
+/// numbers, or where no version is stored and no table has a row; else it refuses.
 fn made_again<S: Alter + Drop>(
     alloc: Global,
     conn: Connection<S>,
-) -> Result<SqlShelf<S>, Refused<S>>
+) -> Result<Connection<S>, Refused<S>>
     requires { IsSettled (state S.Store conn) }
-    ensures opened { IfOk result (IsOpened S.Store conn) }
-    ensures refused { IfErr result (λ e. IsRefused S.Store conn e.0 e.1) }
+    ensures { Prepares S.Store conn result }
 {
-    let (told, mut conn) = match read_again(alloc, conn) {
-        Ok(found) => found,
+    let (found, mut conn) = match read_again(alloc, conn) {
+        Ok(read) => read,
         Err((fault, store)) => return Err((OpenFault::from(fault), Err(store))),
     };
-    let eight = match told {
-        Ok(eight) => eight,
+    let rows = match found {
+        Ok(rows) => rows,
         Err(why) => return Err((why, Ok(conn))),
     };
     if !has_only_ours(conn.schema()) {
         return Err((OpenFault::Store, Ok(conn)));
     }
-    match make_tables(alloc, &mut conn, eight) {
-        Ok(()) => Ok(SqlShelf::over(conn)),
+    match make_tables(alloc, &mut conn, rows) {
+        Ok(()) => Ok(conn),
         Err(fault) => Err((OpenFault::from(fault), Ok(conn))),
     }
 }
 
-impl<S: Alter> SqlShelf<S> {
-    /// Opens the tables of the office as `open_returning` does, in a database whose rows are known
-    /// to be in order, as those of files are that were just opened, and which is not checked again.
-    pub fn open_arranged(
-        alloc: Global,
-        mut conn: Connection<S>,
-    ) -> Result<SqlShelf<S>, (OpenFault, Left<S>)>
-    where
-        S: Drop,
-        requires { IsArrangedIfClean (state S.Store conn) }
-        ensures opened { IfOk result (IsOpened S.Store conn) }
-        ensures refused { IfErr result (λ e. IsRefused S.Store conn e.0 e.1) }
-        ensures under_way { (state S.Store conn).in_transaction ≡ true →
-            result ≡ Err (OpenFault.Store, Ok conn) }
-    {
-        if !conn.is_autocommit() {
-            return Err((OpenFault::Store, Ok(conn)));
+/// The tables of the office in a database whose rows are known to be in order, as a shelf opens
+/// them.
+pub(crate) fn prepare<S: Alter + Drop>(
+    alloc: Global,
+    mut conn: Connection<S>,
+) -> Result<Connection<S>, Refused<S>>
+    requires { IsArrangedIfClean (state S.Store conn) }
+    ensures prepares { Prepares S.Store conn result }
+    ensures under_way { (state S.Store conn).in_transaction ≡ true →
+        result ≡ Err (OpenFault.Store, Ok conn) }
+{
+    if !conn.is_autocommit() {
+        return Err((OpenFault::Store, Ok(conn)));
+    }
+    if !is_office(conn.schema()) {
+        if has_only_ours(conn.schema()) {
+            return made_again(alloc, conn);
         }
-        if !is_office(conn.schema()) {
-            if has_only_ours(conn.schema()) {
-                return made_again(alloc, conn);
-            }
-            return Err((OpenFault::Store, Ok(conn)));
-        }
-        match is_today(&mut conn) {
-            Ok(true) => Ok(SqlShelf::over(conn)),
-            Ok(false) => made_again(alloc, conn),
-            Err(fault) => Err((OpenFault::from(fault), Ok(conn))),
-        }
+        return Err((OpenFault::Store, Ok(conn)));
+    }
+    match stored_version(&mut conn) {
+        Ok(Some(VERSION)) => Ok(conn),
+        Ok(_) => made_again(alloc, conn),
+        Err(fault) => Err((OpenFault::from(fault), Ok(conn))),
     }
 }

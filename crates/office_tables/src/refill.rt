@@ -1,15 +1,11 @@
 //! Rows put into the tables of the office again.
 
 ghost use Rattle.std.specs.Prelude.{◌≡◌, map, IsTrue, true, IfOk};
-ghost use Rattle.sqlite.specs.Held.{state};
-ghost use Rattle.sqlite.specs.Order.{column};
-ghost use Rattle.sqlite.specs.Values.{bound, bound_value};
+ghost use Rattle.sqlite.specs.{Held.state, Order.column, Values.bound, Values.bound_value};
 ghost use Rattle.sqlite_value.specs.Value.{owned};
-ghost use Rattle.office_tables_statements.specs.Calls.{StandsOn, TurnsTo};
+ghost use Rattle.office_tables_statements.specs.{Calls.StandsOn, Calls.TurnsTo, Tables.suit, Tables.suits_kind, Tables.places_of as places_in, Wanted.column_wanted};
 ghost use Rattle.office_tables_statements.specs.Stored.{are_sound, cell_of, cells_at, content_now, is_sound};
-ghost use Rattle.office_tables_statements.specs.Tables.{suit, suits_kind, places_of as places_in};
-ghost use Rattle.office_tables_statements.specs.Wanted.{column_wanted};
-ghost use Rattle.office_tables.specs.Moved.{part_moved, row_put, rows_put, all_put};
+ghost use Rattle.office_tables.specs.Moved.{row_put, all_put};
 
 use crate::gather::Moved;
 use office_tables_shelf::rows::Table;
@@ -64,22 +60,6 @@ fn suit(row: &Row, places: &[usize], columns: &[WantedColumn<'_>]) -> bool
     suits(row.get(*place), column.1) && suit(row, places, columns)
 }
 
-fn is_told(value: ValueRef<'_>) -> bool
-    ensures { IsTrue result → is_sound (owned value.entry) ≡ true }
-{
-    matches!(value, ValueRef::Int(_) | ValueRef::Text(_))
-}
-
-/// Whether there is an integer or a text at each of these places of a row.
-fn are_told(row: &Row, places: &[usize]) -> bool
-    ensures { IsTrue result → are_sound places.now row.now ≡ true }
-{
-    let Some((place, places)) = places.split_first() else {
-        return true;
-    };
-    is_told(row.get(*place)) && are_told(row, places)
-}
-
 /// The values that stand at these places of a row, in the order of the places.
 fn values_of<'a>(
     alloc: Global,
@@ -96,6 +76,13 @@ fn values_of<'a>(
     Ok(values)
 }
 
+/// Whether there is an integer or a text at each of these places of a row.
+fn are_told(row: &Row, places: &[usize]) -> bool
+    ensures { result ≡ are_sound places.now row.now }
+{
+    places.iter().all(|place| matches!(row.get(*place), ValueRef::Int(_) | ValueRef::Text(_)))
+}
+
 /// Puts a stored row into its table again, with the values that it had. `Store` means that the
 /// database refused, or that a value of the key is neither integer nor text, or that a column does
 /// not take a value.
@@ -107,7 +94,7 @@ fn put_row<S: Alter>(
 ) -> Result<(), SqlFault>
     ensures same_reference { tx.new.conn.ghost_name ≡ tx.old.conn.ghost_name }
     ensures put { TurnsTo result
-        (row_put table (content_now (state S.Store tx.old.conn.now)) row.now)
+        (row_put (content_now (state S.Store tx.old.conn.now)) (table, row.now))
         (state S.Store tx.old.conn.now) (state S.Store tx.new.conn.now) }
     ensures stands { StandsOn (state S.Store tx.old.conn.now) (state S.Store tx.new.conn.now) }
 {
@@ -120,41 +107,20 @@ fn put_row<S: Alter>(
     Ok(())
 }
 
-/// Puts stored rows into one table again, from the last one to the first.
-fn put_rows<S: Alter>(
-    alloc: Global,
-    tx: &mut Transaction<'_, S>,
-    table: Table,
-    mut rows: Vec<Row>,
-) -> Result<(), SqlFault>
-    ensures same_reference { tx.new.conn.ghost_name ≡ tx.old.conn.ghost_name }
-    ensures put { TurnsTo result
-        (rows_put table (content_now (state S.Store tx.old.conn.now)) rows.items)
-        (state S.Store tx.old.conn.now) (state S.Store tx.new.conn.now) }
-    ensures stands { StandsOn (state S.Store tx.old.conn.now) (state S.Store tx.new.conn.now) }
-{
-    while let Some(row) = rows.pop() {
-        put_row(alloc, tx, table, &row)?;
-    }
-    Ok(())
-}
-
-/// Puts the rows of these tables into them again, those of the last table first: what others refer
-/// to stands at the end of the list.
+/// Puts stored rows into their tables again, from the last one to the first: the rows that others
+/// refer to stand at the end of the list.
 pub(crate) fn put_all<S: Alter>(
     alloc: Global,
     tx: &mut Transaction<'_, S>,
-    mut all: Vec<Moved>,
+    mut rows: Vec<Moved>,
 ) -> Result<(), SqlFault>
     ensures same_reference { tx.new.conn.ghost_name ≡ tx.old.conn.ghost_name }
-    ensures put { TurnsTo result
-        (all_put (content_now (state S.Store tx.old.conn.now)) (map part_moved all.items))
+    ensures put { TurnsTo result (all_put (content_now (state S.Store tx.old.conn.now)) rows.items)
         (state S.Store tx.old.conn.now) (state S.Store tx.new.conn.now) }
     ensures stands { StandsOn (state S.Store tx.old.conn.now) (state S.Store tx.new.conn.now) }
 {
-    let Some(moved) = all.pop() else {
-        return Ok(());
-    };
-    put_rows(alloc, tx, moved.table, moved.rows)?;
-    put_all(alloc, tx, all)
+    while let Some((table, row)) = rows.pop() {
+        put_row(alloc, tx, table, &row)?;
+    }
+    Ok(())
 }

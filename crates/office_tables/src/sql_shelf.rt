@@ -1,16 +1,11 @@
 //! A shelf over the tables of the office in a database of SQL.
 
-ghost use Rattle.std.specs.Prelude.{◌≡◌, true, false, Ok, Err, IfOk, IfErr};
-ghost use Rattle.sqlite.specs.Files.{file_state};
-ghost use Rattle.sqlite.specs.Held.{state};
-ghost use Rattle.office_tables_statements.specs.Calls.{IsHonest};
-ghost use Rattle.office_tables_shelf.specs.Counts.{no_writes};
-ghost use Rattle.office_tables.specs.SqlShelf.{IsCurrent};
-ghost use Rattle.office_tables.specs.Opening.{HasOtherVersion, HasRowsAlone, StaysClean, IsOpened, IsRefused};
-ghost use Rattle.office_tables_statements.specs.Schema.{office_schema};
+ghost use Rattle.std.specs.Prelude.{◌≡◌, true, Ok, Err, MatchResult};
+ghost use Rattle.sqlite.specs.{Files.file_state, Held.state};
+ghost use Rattle.office_tables.specs.{Arranged.IsArrangedIfClean, SqlShelf.IsCurrent, Opening.IsOpened, Opening.IsRefused, Opening.Opens};
 
 use crate::found::{check_again, has_only_ours};
-use crate::open::{Left, OpenFault};
+use crate::open::{Left, OpenFault, prepare};
 use cabinet_core::{Day, Hand, Inspection, Order, PartCode, UsedLine};
 use office_tables_shelf::counts::WriteCounts;
 use office_tables_shelf::register::{RegisterKey, RegisterRecord};
@@ -56,14 +51,10 @@ impl<S: Alter> SqlShelf<S> {
     pub fn open(alloc: Global, conn: Connection<S>) -> Result<SqlShelf<S>, OpenFault>
     where
         S: Drop,
-        ensures opened { IfOk result (IsOpened S.Store conn) }
-        ensures refused { IfErr result (λ fault. (left : _) × IsRefused S.Store conn fault left) }
+        ensures opens { MatchResult result (IsOpened S.Store conn)
+            (λ fault. (left : _) × IsRefused S.Store conn fault left) }
         ensures under_way { (state S.Store conn).in_transaction ≡ true →
             result ≡ Err OpenFault.Store }
-        ensures version { result ≡ Err OpenFault.Version → StaysClean S.Store conn →
-            HasOtherVersion (state S.Store conn).committed.trees }
-        ensures damaged { result ≡ Err OpenFault.Damaged → StaysClean S.Store conn →
-            HasRowsAlone (state S.Store conn).committed.trees }
     {
         match SqlShelf::open_returning(alloc, conn) {
             Ok(shelf) => Ok(shelf),
@@ -81,15 +72,11 @@ impl<S: Alter> SqlShelf<S> {
     ) -> Result<SqlShelf<S>, (OpenFault, Left<S>)>
     where
         S: Drop,
-        ensures opened { IfOk result (IsOpened S.Store conn) }
-        ensures refused { IfErr result (λ e. IsRefused S.Store conn e.0 e.1) }
+        ensures opens { Opens S.Store conn result }
         ensures under_way { (state S.Store conn).in_transaction ≡ true →
             result ≡ Err (OpenFault.Store, Ok conn) }
     {
-        if !conn.is_autocommit() {
-            return Err((OpenFault::Store, Ok(conn)));
-        }
-        if !has_only_ours(conn.schema()) {
+        if !conn.is_autocommit() || !has_only_ours(conn.schema()) {
             return Err((OpenFault::Store, Ok(conn)));
         }
         match check_again(alloc, conn) {
@@ -98,15 +85,25 @@ impl<S: Alter> SqlShelf<S> {
         }
     }
 
-    /// A shelf over tables that have today's version, of which no write is counted yet.
-    pub(crate) fn over(conn: Connection<S>) -> SqlShelf<S>
-        requires { IsCurrent (state S.Store conn) }
-        ensures same { result.conn ≡ conn }
-        ensures unwritten { result.counts ≡ no_writes }
+    /// Opens the tables of the office as `open_returning` does, in a database whose rows are known
+    /// to be in order, as those of files are that were just opened, and which is not checked again.
+    pub fn open_arranged(
+        alloc: Global,
+        conn: Connection<S>,
+    ) -> Result<SqlShelf<S>, (OpenFault, Left<S>)>
+    where
+        S: Drop,
+        requires { IsArrangedIfClean (state S.Store conn) }
+        ensures opens { Opens S.Store conn result }
+        ensures under_way { (state S.Store conn).in_transaction ≡ true →
+            result ≡ Err (OpenFault.Store, Ok conn) }
     {
-        SqlShelf {
-            conn,
-            counts: WriteCounts::new(),
+        match prepare(alloc, conn) {
+            Ok(conn) => Ok(SqlShelf {
+                conn,
+                counts: WriteCounts::new(),
+            }),
+            Err(refused) => Err(refused),
         }
     }
 
@@ -122,11 +119,6 @@ impl<S: Alter> SqlShelf<S> {
     pub fn into_conn(self) -> Connection<S>
         ensures same { result ≡ self.conn }
         ensures current { IsCurrent (state S.Store result) }
-        ensures autocommit { (state S.Store result).in_transaction ≡ false }
-        ensures committed { IsHonest (state S.Store result) →
-            (state S.Store result).committed ≡ (state S.Store self.conn).now }
-        ensures schema { IsHonest (state S.Store result) →
-            (state S.Store result).now.schema ≡ office_schema }
     {
         let SqlShelf { conn, .. } = self;
         conn
@@ -140,16 +132,13 @@ impl<D: Disk> SqlShelf<FileStore<D>> {
         ensures same { result ≡ self.conn }
         ensures current { IsCurrent (file_state result) }
     {
-        let SqlShelf { conn, .. } = self;
-        conn
+        self.into_conn()
     }
 }
 
 impl<S: Alter> Shelf for SqlShelf<S> {
-    ghost use Rattle.sqlite.specs.Held.{state};
-    ghost use Rattle.sqlite.specs.State.{HasCleanDisk};
-    ghost use Rattle.office_tables_statements.specs.Stored.{content_now};
-    ghost use Rattle.office_tables_statements.specs.Calls.{IsHonest};
+    ghost use Rattle.sqlite.specs.{Held.state, State.HasCleanDisk};
+    ghost use Rattle.office_tables_statements.specs.{Stored.content_now, Calls.IsHonest};
     ghost use Rattle.office_tables.specs.SqlShelf.{MayLeave};
 
     ghost content = { λ s. content_now (state S.Store s.conn) };

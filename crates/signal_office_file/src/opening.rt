@@ -5,7 +5,6 @@ ghost use Rattle.std.specs.Prelude.{◌≡◌, IfOk, IfErr};
 ghost use Rattle.sqlite.specs.Held.{state};
 ghost use Rattle.office_tables.specs.Opening.{IsOpened, IsRefused};
 ghost use Rattle.office_tables.specs.Arranged.{IsArrangedIfClean};
-ghost use Rattle.office_tables.specs.SqlShelf.{IsCurrent};
 ghost use Rattle.signal_office_file.specs.Left.{ClosesFiles, ClosesOffice, IsOpenedIn, IsUnopened};
 ghost use Rattle.signal_office_file.specs.Serving.{OpensFiles};
 
@@ -48,14 +47,10 @@ fn office_over<S: Alter + Drop>(
 ) -> Result<Office<SqlShelf<S>>, (OpenFault, Left<S>)>
     requires { IsArrangedIfClean (state S.Store conn) }
     ensures opened { IfOk result (λ office. IsOpened S.Store conn office) }
-    ensures current { IfOk result (λ office. IsCurrent (state S.Store office.conn)) }
     ensures refused { IfErr result (λ e. IsRefused S.Store conn e.0 e.1) }
 {
     match SqlShelf::open_arranged(alloc, conn) {
-        Ok(shelf) => {
-            shelf.known();
-            Ok(Office::new(shelf))
-        }
+        Ok(shelf) => Ok(Office::new(shelf)),
         Err(refused) => Err(refused),
     }
 }

@@ -1,41 +1,28 @@
-use Rattle.std.proofs.Common.{◌≡◌, List, map, arith, subst₂, rules}
-use Rattle.std.specs.Prelude.{IfOk}
-use Rattle.std.proofs.lemmas.Result.{IfOk-weaker}
-use Rattle.sqlite.specs.{Held.state, Tree.Trees, View.IsClean}
-use Rattle.sqlite_schema.specs.declared.schema.Table.{Table}
-use Rattle.office_tables.specs.{Found.MayBeMade, Found.eight_rows, Found.keeper_rows, Moved.part_moved}
-use Rattle.office_tables.proofs.{LeftLemmas.still_found, OpenLemmas.again, OpenLemmas.read_made, OpenLemmas.taken_still}
+use Rattle.std.proofs.Common.{◌≡◌, arith, subst, subst₂, rules}
+use Rattle.sqlite.specs.{Effect.Database, Held.state, View.IsClean}
+use Rattle.sqlite_catalog.specs.Listing.{AreListed}
+use Rattle.sqlite_trees.specs.Objects.{catalog_tree}
+use Rattle.office_tables.specs.Opening.{FindsIn, IsTaken}
+use Rattle.office_tables.proofs.{FoundLemmas.finds, OpenLemmas.still_found, OpenLemmas.still_taken, found.read_again.Given.Over, found.read_again.Goals.In-Ok-look}
 use Rattle.office_tables.proofs.found.read_again.Goals as goal
 
-pub returns-in-Ok-over-clause-again : goal.returns-in-Ok-over-clause-again
-returns-in-Ok-over-clause-again g c =
-    let old = state g.S.Store c.args.conn in
-    let it = c.in-Ok-over.ensures in
-    let looked = c.in-Ok-look.ensures in
-    let taken = taken_still old (g.S.Store.view c.in-Ok.store) (g.S.Store.view c.look.new.store) c.in-Ok.ensures.taken looked.quiet.clean looked.same in
-    again old (state g.S.Store c.in-Ok-over.conn) (g.S.Store.view c.look.new.store) taken it.fresh.autocommit it.clean it.opens it.trees
-    (λ trees opened left. g.met.S.Store.settled c.in-Ok-over.conn.store trees opened left)
+taken : (g : Over) (c : In-Ok-look g) → IsTaken g.S.Store c.args.conn c.look.new.store
+taken g c = still_taken g.S.Store c.args.conn _ _ c.in_ok-store.ensures.taken c.look.ensures.quiet c.in-Ok-look.ensures.same
 
-pub returns-in-Err-look-clause-left : goal.returns-in-Err-look-clause-left
-returns-in-Err-look-clause-left g c =
-    let it = c.in-Ok.ensures in
-    still_found g.S.Store c.args.conn c.in-Ok.store c.look.new.store it.found it.taken.was_open c.in-Err-look.ensures.quiet (g.met.S.Store.settled c.args.conn.store) (g.met.S.Store.stays c.look.new.store)
+pub returns-in-Err-clause-again : goal.returns-in-Err-clause-again
+returns-in-Err-clause-again g c =
+    still_found g.S.Store c.args.conn _ _ c.in_ok-store.ensures.taken c.look.ensures.quiet (g.met.S.Store.settled c.args.conn.store) (g.met.S.Store.stays c.look.new.store)
 
-pub returns-clause-left : goal.returns-clause-left
-returns-clause-left g c =
-    let it = c.in-Ok.ensures in
-    let looked = c.in-Ok-look.ensures in
-    let mid = still_found g.S.Store c.args.conn c.in-Ok.store c.look.new.store it.found it.taken.was_open looked.quiet (g.met.S.Store.settled c.args.conn.store) (g.met.S.Store.stays c.look.new.store) in
-    still_found g.S.Store c.args.conn c.look.new.store c.in-Err-over.store mid (λ clean. it.taken.was_open (omega (arith, clean, looked.quiet.clean))) c.in-Err-over.ensures.unharmed (g.met.S.Store.settled c.args.conn.store) (g.met.S.Store.stays c.in-Err-over.store)
+pub returns-clause-again : goal.returns-clause-again
+returns-clause-again g c = c.in_ok-conn.ensures.again c.args.conn (taken g (goal.at.returns-clause-again g c).In-Ok-look)
 
-pub returns-in-Ok-over-clause-made : goal.returns-in-Ok-over-clause-made
-returns-in-Ok-over-clause-made g c clean =
+pub returns-clause-finds : goal.returns-clause-finds
+returns-clause-finds g c clean =
     let s = state g.S.Store c.args.conn in
-    let looked = c.in-Ok-look.ensures in
-    let late : IsClean (g.S.Store.view c.look.new.store) = omega (arith, clean, c.in-Ok-over.ensures.clean) in
-    let early : IsClean (g.S.Store.view c.in-Ok.store) = omega (arith, late, looked.quiet.clean) in
-    let opened = c.in-Ok.ensures.taken.was_open early in
+    let it = c.in_ok-store.ensures.taken in
+    let late : IsClean (g.S.Store.view c.look.new.store) = omega (arith, clean, c.in_ok-conn.ensures.clean) in
+    let early : IsClean (g.S.Store.view c.in_ok-store.store) = omega (arith, late, c.look.ensures.quiet.clean) in
+    let opened = it.was_open early in
+    let listed = subst (λ (d : Database). AreListed (d.trees catalog_tree) s.now.schema) (c.requires (omega (arith, early, it.clean), opened)) (c.schema.ensures.live opened).0.lists.listed in
     let same : c.as_slice.result.now ≡ s.now.schema.tables = search rules in
-    let Read = λ (tables : List Table) (trees : Trees). IfOk c.in-Ok-look.told (λ eight. (map part_moved eight.items ≡ eight_rows tables trees) × MayBeMade tables (keeper_rows tables trees) (eight_rows tables trees)) in
-    IfOk-weaker c.in-Ok-look.told _ _ (λ eight read. read_made s (c.requires (omega (arith, early, c.in-Ok.ensures.taken.clean), opened)) (c.schema.ensures.live opened).0 eight.items read.0 read.1)
-    (subst₂ Read same (c.in-Ok.ensures.taken.trees early) (looked.made late))
+    finds s.committed.trees s.now.schema listed _ (subst₂ (λ tables trees. FindsIn tables trees c.in-Ok-look.found) same (it.trees early) (c.in-Ok-look.ensures.finds late))

@@ -17,6 +17,7 @@ returns-clause-taken g c =
       was_open = λ h. (it.undone.kept h).was_open (opened h);
       fresh = λ h. record { sound = unbroken h; numbered = it.numbered h; clean = (it.undone.undone (opened h)).0 ∙ sym ((it.undone.kept h).committed (opened h)); unmarked = (it.undone.kept h).marks (opened h) };
       trees = λ h. (it.undone.undone (opened h)).0;
+      crash = λ h trees may. it.quiet.outcomes trees may;
       left = λ h. subst (g.S.Store.recovers c.args.conn.store) ((it.undone.kept h).committed (opened h)) (it.quiet.outcomes _ (g.met.S.Store.stays store (opened h)));
       arranged = λ h. subst IsArranged (it.undone.undone (opened h)).0 (stored_arranged view (g.met.S.Alter.listed store (unbroken h)) (g.met.S.Store.ordered store (unbroken h)));
     }

@@ -1,51 +1,43 @@
-use Rattle.std.proofs.Common.{◌++◌, inl, inr, ap, subst, length, ◌-◌, refl, ◌∙◌, rules}
-use Rattle.sqlite.specs.{Effect.Database, Held.state, State.Survives, Tree.Trees}
-use Rattle.office_tables_shelf.specs.{Content.Content, declared.rows.Table.TheVariants.Timing, declared.rows.Table.TheVariants.Draft}
-use Rattle.office_tables_statements.specs.{Calls.IsHonest, Stored.content_now, Stored.content_of}
-use Rattle.office_tables.specs.{Listing.lists_timing, Listing.lists_draft, Migrate.IsSpelledToday, Rewritten.HasNoFormer, Rewritten.timing_puts}
-use Rattle.office_tables.proofs.{MigrateLemmas.no_row, MigrateLemmas.no_row_kept, MigrateLemmas.spelled, MigrateLemmas.spelled_survives, migrate.spell_anew.Given.Over}
-use Rattle.office_tables.proofs.migrate.spell_anew.Goals.{After-write_anew}
+use Rattle.std.proofs.Common.{◌≡◌, ◌-◌, Some, length, sym, ◌∙◌, rules, arith, refl}
+use Rattle.sqlite.specs.{Held.state, Tree.Trees}
+use Rattle.office_tables_shelf.specs.Change.{changed_by}
+use Rattle.office_tables_statements.specs.{Calls.IsHonest, Calls.Keeps, Stored.content_now}
+use Rattle.office_tables_sql.specs.Version.{Completes, first_version, version_in}
+use Rattle.office_tables.specs.{Migrate.IsAnew, declared.rewritten.Migrated.Migrated}
+use Rattle.office_tables.proofs.MigrateLemmas.{anew_by, keeps_all, lists_draft, lists_timing, unwritten, written}
+use Rattle.office_tables.proofs.migrate.spell_anew.{Given.Over, Goals.After-write_anew}
 use Rattle.office_tables.proofs.migrate.spell_anew.Goals as goal
 
-pub former_rows-requires-clause-query : goal.former_rows-requires-clause-query
-former_rows-requires-clause-query g c = (_, lists_timing.text)
+pub put_former-requires-clause-query : goal.put_former-requires-clause-query
+put_former-requires-clause-query g c = lists_timing
 
-pub former_rows-requires-2-clause-query : goal.former_rows-requires-2-clause-query
-former_rows-requires-2-clause-query g c = (_, lists_draft.text)
+pub put_former-requires-2-clause-query : goal.put_former-requires-2-clause-query
+put_former-requires-2-clause-query g c = lists_draft
 
-pub returns-in_err-kept-clause-damaged : goal.returns-in_err-kept-clause-damaged
-returns-in_err-kept-clause-damaged g c is clean = inl (no_row _ (c.in_err-kept.ensures.damaged (search rules) (c.in_err-kept.ensures.open clean (search rules)) Timing lists_timing))
+keeps : (g : Over) (c : After-write_anew g) → Keeps (state g.S.Store c.args.conn.now) (state g.S.Store c.put_former-2.new.conn)
+keeps g c =
+    keeps_all g.S.Store c.args.conn.now c.stored_version.new.conn c.put_former.new.conn c.put_former-2.new.conn c.requires c.stored_version.ensures.kept c.put_former.ensures.kept c.put_former-2.ensures.kept
 
-pub returns-in_err-put_timing-clause-damaged : goal.returns-in_err-put_timing-clause-damaged
-returns-in_err-put_timing-clause-damaged g c is clean =
-    inl (no_row_kept _ c.in_ok-kept.kept.items (c.in_ok-kept.ensures.rows (c.in_ok-kept.ensures.open clean tt) Timing lists_timing) (c.in_err-put_timing.ensures.damaged (search rules)))
+anew : (g : Over) (c : After-write_anew g) (count : Migrated) → count.timing ≡ length c.put_former.new.changes.items → count.draft ≡ length c.put_former-2.new.changes.items - length c.put_former.new.changes.items
+    → IsHonest (state g.S.Store c.put_former-2.new.conn) → (trees : Trees) → Completes (changed_by (content_now (state g.S.Store c.put_former-2.new.conn)) c.as_slice.result.now) trees
+    → IsAnew (state g.S.Store c.args.conn.now).committed.trees trees count
+anew g c =
+    let version : IsHonest (state g.S.Store c.stored_version.new.conn) → Some first_version ≡ version_in (state g.S.Store c.args.conn.now).now.trees =
+    λ honest. let told = rw c.in-Some-eq1.is at (c.in_ok-stored_version.ensures.found honest) in first_of ((search rules), (cc), (grind arith)) in
+    anew_by g.S.Store c.args.conn.now c.stored_version.new.conn c.put_former.new.conn c.put_former-2.new.conn c.requires c.stored_version.ensures.kept c.put_former.ensures.kept c.put_former-2.ensures.kept
+    _ _ _ _ c.new-changes.ensures.items c.as_slice.ensures.value c.in_ok-put_former.ensures.puts c.in_ok-put_former-2.ensures.puts version
 
-pub returns-in_err-kept-2-clause-damaged : goal.returns-in_err-kept-2-clause-damaged
-returns-in_err-kept-2-clause-damaged g c is clean =
-    let it = c.in_err-kept-2.ensures in
-    let honest = it.open clean (search rules) in
-    inr (subst (λ (t : Content). HasNoFormer t.draft) (ap (λ (d : Database). content_of d.trees) (c.former_rows.ensures.kept.same (it.kept.honest honest))) (it.damaged (search rules) honest Draft lists_draft))
+pub returns-in_err-write_anew : goal.returns-in_err-write_anew
+returns-in_err-write_anew g c =
+    let early = (goal.at.returns-in_err-write_anew g c).After-write_anew in
+    unwritten g.S.Store c.args.conn.now c.put_former-2.new.conn c.requires (keeps g early) c.write_anew.new.conn _ _
+    (anew g early (record { timing = length c.put_former.new.changes.items; draft = length c.put_former-2.new.changes.items - length c.put_former.new.changes.items }) refl refl)
+    _ _ c.from_residual-in_err-write_anew.ensures.1 c.in_err-write_anew.ensures
 
--- what a crash leaves
-crash : (g : Over) (c : After-write_anew g) → Survives (state g.S.Store c.args.conn.now) (state g.S.Store c.write_anew.new.conn)
-    (λ (trees : Trees). IsHonest (state g.S.Store c.args.conn.now) × IsSpelledToday (content_now (state g.S.Store c.args.conn.now)) trees)
-crash g c =
-    spelled_survives (state g.S.Store c.args.conn.now) (state g.S.Store c.former_rows.new.conn) (state g.S.Store c.former_rows-2.new.conn) c.former_rows.ensures.kept c.former_rows-2.ensures.kept
-    c.in_ok-kept.kept.items c.in_ok-kept-2.kept.items (λ h. c.in_ok-kept.ensures.rows h Timing lists_timing) (λ h. c.in_ok-kept-2.ensures.rows h Draft lists_draft) c.in_ok-put_timing.ensures.rows
-    c.put_timing.new.changes.items c.as_slice.result.now (c.in_ok-put_timing.ensures.puts ∙ ap (λ changes. changes ++ timing_puts c.in_ok-kept.kept.items) c.new-changes.ensures.items) (c.as_slice.ensures.value ∙ c.in-Ok.ensures)
-    (record { timing = length c.put_timing.new.changes.items; draft = length c.as_slice.result.now - length c.put_timing.new.changes.items }) refl refl
-    (state g.S.Store c.write_anew.new.conn) c.write_anew.ensures.crash
+pub overflow_sub-draft : goal.overflow_sub-draft
+overflow_sub-draft g c = omega (arith, c.in_ok-put_former-2.ensures.grows, c.len.ensures, c.len-timing.ensures)
 
-pub returns-in_err-write_anew-clause-crash : goal.returns-in_err-write_anew-clause-crash
-returns-in_err-write_anew-clause-crash g c = crash g (goal.at.returns-in_err-write_anew-clause-crash g c).After-write_anew
-
-pub returns-clause-crash : goal.returns-clause-crash
-returns-clause-crash g c = crash g (goal.at.returns-clause-crash g c).After-write_anew
-
-pub returns-clause-migrated : goal.returns-clause-migrated
-returns-clause-migrated g c honest =
-    spelled (state g.S.Store c.args.conn.now) (state g.S.Store c.former_rows.new.conn) (state g.S.Store c.former_rows-2.new.conn) c.former_rows.ensures.kept c.former_rows-2.ensures.kept
-    c.in_ok-kept.kept.items c.in_ok-kept-2.kept.items (λ h. c.in_ok-kept.ensures.rows h Timing lists_timing) (λ h. c.in_ok-kept-2.ensures.rows h Draft lists_draft) c.in_ok-put_timing.ensures.rows
-    c.put_timing.new.changes.items c.as_slice.result.now (c.in_ok-put_timing.ensures.puts ∙ ap (λ changes. changes ++ timing_puts c.in_ok-kept.kept.items) c.new-changes.ensures.items) (c.as_slice.ensures.value ∙ c.in-Ok.ensures)
-    (record { timing = c.len-timing.result; draft = c.len.result - c.len-timing.result }) (search rules) (search rules)
-    (state g.S.Store c.write_anew.new.conn).now.trees (c.in_ok-write_anew.ensures.honest honest) (c.in_ok-write_anew.ensures.written honest)
+pub returns : goal.returns
+returns g c =
+    let early = (goal.at.returns g c).After-write_anew in
+    written g.S.Store c.args.conn.now c.put_former-2.new.conn c.requires (keeps g early) c.write_anew.new.conn _ _ (anew g early _ (search rules) (search rules)) _ c.in_ok-write_anew.ensures (g.met.S.Store.settled c.write_anew.new.conn.store)

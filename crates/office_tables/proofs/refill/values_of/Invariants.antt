@@ -1,6 +1,5 @@
 use Rattle.std.proofs.Common.{◌≡◌, ◌++◌, drop, map}
-use Rattle.sqlite.specs.Order.{column}
-use Rattle.sqlite.specs.Values.{bound, bound_value}
+use Rattle.sqlite.specs.{Order.column, Values.bound, Values.bound_value}
 use Rattle.office_tables.proofs.refill.values_of.Given as goal
 
 -- the values so far, and those at the places that are left

@@ -19,7 +19,7 @@ returns-in-Ok-close_file g c =
     let files = c.args.files in
     let back = c.in-Ok-close_file.files in
     let closed = closed_migrated files tried.new.conn back tried.result c.in-Ok-close_file.ensures.1
-    (migrates_in g.met.D.Disk.seen_may_stay files tried.result c.in-Ok.conn tried.new.conn c.in-Ok.ensures.opened it.open it.brought it.settled it.version it.damaged it.unchanged it.crash) in
+    (migrates_in g.met.D.Disk.seen_may_stay files tried.result c.in-Ok.conn tried.new.conn c.in-Ok.ensures.opened it.opened it.brought it.settled it.version it.damaged it.unchanged it.crash) in
     record {
       ends = (tried.result, c.rows_written-done.ensures, c.in-Ok-close_file.ensures.0, closed);
       today = subst (λ told. BringsToday {g = g.D.Disk} files (Closed told back)) (sym c.rows_written-done.ensures)
@@ -35,7 +35,7 @@ returns-in-Err-close_file g c =
       ends = record {
         outcome = tried.result;
         conn = tried.new.conn;
-        migrates = migrates_in g.met.D.Disk.seen_may_stay c.args.files tried.result c.in-Ok.conn tried.new.conn c.in-Ok.ensures.opened it.open it.brought it.settled it.version it.damaged it.unchanged it.crash;
+        migrates = migrates_in g.met.D.Disk.seen_may_stay c.args.files tried.result c.in-Ok.conn tried.new.conn c.in-Ok.ensures.opened it.opened it.brought it.settled it.version it.damaged it.unchanged it.crash;
         closing = c.in-Err-close_file.fault;
         unclosed = c.in-Err-close_file.ensures;
         told_is = subst (λ done. MatchResult done (λ _. told ≡ c.in-Err-close_file.fault) (λ cause. told ≡ cause)) c.rows_written-done.ensures c.first_fault.ensures;

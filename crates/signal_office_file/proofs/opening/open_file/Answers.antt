@@ -11,7 +11,7 @@ office_over-requires g c clean = found_arranged _ _ (c.in-Ok.ensures.opened clea
 -- what was opened holds what the files held
 pub returns-in-Ok-office_over : goal.returns-in-Ok-office_over
 returns-in-Ok-office_over g c =
-    let it = c.in-Ok-office_over.ensures.opened in
+    let it = c.in-Ok-office_over.ensures.opened.0 in
     record {
       clean = λ clean. (c.in-Ok.ensures.opened (it.honest (it.opened clean))).0.honest;
       opened = λ clean.
@@ -22,12 +22,12 @@ returns-in-Ok-office_over g c =
             held = record {
               trees = (file_state c.in-Ok.conn).committed.trees;
               those = record { holds = found.holds; reads = found.reads };
-              hold = it.kept honest;
+              hold = (it.takes honest).kept;
             };
             crash = λ tables left. sym left.3 ∙ it.crash honest left.1 left.2;
-            unwritten = it.unwritten;
+            unwritten = c.in-Ok-office_over.ensures.opened.1;
           };
-      current = c.in-Ok-office_over.ensures.current;
+      current = it.current;
     }
 
 pub returns-in-Err : goal.returns-in-Err
