@@ -6,7 +6,13 @@ use Rattle.office_tables_shelf.specs.{Cells.Cell, Cells.TableRows, Cells.cells_c
 use Rattle.office_tables_shelf.proofs.ListedRows.{listed_whole}
 use Rattle.office_tables_statements.specs.Tables.{rows_at}
 use Rattle.office_tables_statements.proofs.TableLemmas.{among}
-use Rattle.office_tables_sql.specs.Gathers.{Gathers}
+use Rattle.std.proofs.lemmas.Result.{IfOk-weaker}
+use Rattle.std.proofs.Common.{Result, IfOk}
+use Rattle.sqlite.specs.{Given.HasGiven, Held.Held, Held.state, Order.Row, State.HasCleanDisk, State.IsUnchanged, State.Survives}
+use Rattle.sqlite_trees.specs.declared.store.Store.{Ghosts}
+use Rattle.office_tables_shelf.specs.declared.shelf.ShelfFault.{ShelfFault}
+use Rattle.office_tables_statements.specs.{Calls.IsHonest, Stored.content_now, Tables.IsListText, Tables.params_of, Tables.row_shown, Tables.stored_for}
+use Rattle.office_tables_sql.specs.Kept.{Gathers, HasDamage, Kept, LooksUp}
 
 -- ---- the rows of one intersection
 
@@ -40,14 +46,39 @@ within_one Within (e ∷ es) within id = elim (cases_Bool (e.0 == id)) [
 
 -- ---- what was gathered of a list
 
--- none of its rows is damaged
-pub none_damaged : {X G : Type 0} (holds : G → List X → Type 0) (t : Table) (Within : X → Type 0)
-    (key columns : X → List Cell) (tables : Content) (whose : Option ℕ) (found : G)
-    → Gathers holds t Within key columns tables whose found
-    → ¬ HasDamagedRow t Within key columns tables whose
-none_damaged holds t Within key columns tables whose found it =
-    listed_whole t Within key columns tables whose it.records
-    (it.lists ∙ sym (among whose (rows_at tables t))) it.within
+-- what is known of a query whose rows are read one at a time, and of those that it gave so far
+pub record Gathering {S Of X G : Type 0} (g : Ghosts S) (holds : G → List X → Type 0) (kept : Kept Of X) (of : Of) (old now : Held S) (found : G) : Type 0 where
+  pub sql : List ℕ
+  pub is_list : IsListText kept.table (kept.whose of) sql
+  pub given : List Row
+  pub records : List X
+  pub held : holds found records
+  pub within : AllByRecursion kept.is_within records
+  pub shown : map (stored_for (kept.key of) kept.columns) records ≡ map (row_shown kept.table) given
+  pub crash : Survives (state g old) (state g now) (λ _. ⊥)
+  pub mode : now.in_transaction ≡ false
+  pub same : HasCleanDisk (state g now) → IsUnchanged (state g old) (state g now)
+  pub has_given : HasCleanDisk (state g now) → HasGiven g sql (params_of (kept.whose of)) now given
+
+module _ {S Of X G : Type 0} {g : Ghosts S} {holds : G → List X → Type 0} {kept : Kept Of X} {of : Of} {old new : Held S}
+    (result : Result G ShelfFault) (it : LooksUp g result (Gathers holds kept of) (HasDamage kept of) old new) where
+  -- what follows of the records is given too
+  pub gives_of : (Says : Content → G → Type 0) → ((tables : Content) (found : G) → Gathers holds kept of tables found → Says tables found)
+      → LooksUp g result Says (HasDamage kept of) old new
+  gives_of Says follows = record {
+    says = IfOk-weaker result _ _ (λ found told honest. follows _ found (told honest)) it.says;
+    damaged = it.damaged;
+    kept = it.kept;
+    stays_open = it.stays_open;
+  }
+
+  -- none of the rows is damaged
+  pub none_damaged : IfOk result (λ _. IsHonest (state g new) → ¬ HasDamage kept of (content_now (state g old)))
+  none_damaged = IfOk-weaker result _ _ (λ found told honest. whole (told honest)) it.says
+    where
+      whole : {tables : Content} {found : G} → Gathers holds kept of tables found → ¬ HasDamage kept of tables
+      whole {tables} all = listed_whole kept.table kept.is_within (kept.key of) kept.columns tables (kept.whose of) all.records
+          (all.lists ∙ sym (among (kept.whose of) (rows_at tables kept.table))) all.within
 
 -- ---- one more record
 
