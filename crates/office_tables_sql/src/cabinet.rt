@@ -1,18 +1,17 @@
 //! The tables of the register: `inspection`, `work_order` and `used_part`, the records of each
 //! cabinet, and `part` and `delivery`, what is on hand of each part and what was delivered.
 
-ghost use Rattle.std.specs.Prelude.{◌≡◌, ◌≢◌, length, Option, Some, None, IfOk, IfSome, refl};
-ghost use Rattle.sqlite.specs.Order.{column};
-ghost use Rattle.sqlite.specs.Values.{bound_value};
+ghost use Rattle.std.specs.Prelude.{true, ◌≡◌, ◌≢◌, length, Option, Some, None, IfOk, IfSome, refl};
+ghost use Rattle.sqlite.specs.{Order.column, Values.bound_value};
 ghost use Rattle.sqlite_value.specs.Value.{owned};
 ghost use Rattle.cabinet_core.specs.Within.{IsClosingWithin, IsInspectionWithin, IsOrderWithin, IsUsedLineWithin, IsDeliveryWithin};
 ghost use Rattle.cabinet_core.specs.declared.record.Closing.{Closing};
 ghost use Rattle.office_tables_shelf.specs.CabinetRows.{inspection_key, inspection_columns, order_key, order_columns, closed_cell, closer_cell, used_key, used_columns, part_key, part_columns, delivery_key, delivery_columns};
 ghost use Rattle.office_tables_shelf.specs.CabinetReads.{IsPartWithin};
-ghost use Rattle.office_tables_shelf.specs.declared.rows.Table.TheVariants as table;
-ghost use Rattle.office_tables_statements.specs.Stored.{cell_of};
-ghost use Rattle.office_tables_statements.specs.Tables.{value_of};
+ghost use Rattle.office_tables_statements.specs.{Stored.cell_of, Tables.suits_kind, Tables.value_of};
 ghost use Rattle.office_tables_sql.specs.Kept.{keep};
+ghost use Rattle.office_tables_shelf.specs.declared.rows.Table.TheVariants as table;
+ghost use Rattle.sqlite.specs.Kind.TheVariants as kind;
 
 use crate::stored_row::{Bound, StoredRow, Texts, WalkedRow, texts};
 use cabinet_core::{Closing, Delivery, Hand, Inspection, Order, PartCode, UsedLine};
@@ -90,7 +89,6 @@ impl StoredRow for Order {
         })
     }
 
-    #[tactic(auto, using(crate::proofs::Taken::takes_closing))]
     fn bind<'a>(&'a self, alloc: Global, id: InterId, _text: &'a mut String) -> Bound<'a> {
         let (closed, closer) = closing_values(&self.closing);
         let id = id.get().to_sql();
@@ -131,6 +129,8 @@ fn closing_at(alloc: Global, row: &Row) -> Result<Option<Closing>, ShelfFault>
 fn closing_values(closing: &Option<Closing>) -> (ValueRef<'_>, ValueRef<'_>)
     ensures day { bound_value (owned result.0) ≡ value_of (closed_cell closing.now) }
     ensures closer { bound_value (owned result.1) ≡ value_of (closer_cell closing.now) }
+    ensures taken_day { suits_kind kind.Integer (closed_cell closing.now) ≡ true }
+    ensures taken_closer { suits_kind kind.Text (closer_cell closing.now) ≡ true }
 {
     match closing {
         Some(closing) => (

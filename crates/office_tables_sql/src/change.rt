@@ -1,13 +1,11 @@
 //! Changes of rows in one transaction.
 
 ghost use Rattle.std.specs.Prelude.{◌≡◌, ◌≢◌, [], OnOk, OnErr};
-ghost use Rattle.sqlite.specs.State.{HasCleanDisk, Survives};
-ghost use Rattle.sqlite.specs.Held.{state};
+ghost use Rattle.sqlite.specs.{State.HasCleanDisk, State.Survives, Held.state};
 ghost use Rattle.office_tables_shelf.specs.Change.{changed, changed_by};
-ghost use Rattle.office_tables_statements.specs.Stored.{content_now};
+ghost use Rattle.office_tables_statements.specs.{Stored.content_now, Tables.drop_in, Tables.IsInsertText};
 ghost use Rattle.office_tables_statements.specs.Calls.{IsHonest, IsOffice, StandsOn, TurnsTo};
-ghost use Rattle.office_tables_statements.specs.Tables.{drop_in, IsInsertText};
-ghost use Rattle.office_tables_sql.specs.Promises.{KeepsVersion, HoldUnder, Turns};
+ghost use Rattle.office_tables_sql.specs.{Promises.HoldUnder, Promises.Turns, Version.version_in};
 
 use crate::stored_row::{StoredRow, add, put, put_values, remove};
 use cabinet_core::{Delivery, Hand, Inspection, Order, PartCode, UsedLine};
@@ -116,7 +114,8 @@ pub fn apply<S: Alter>(
         (content_now (state S.Store conn.old)) changes.now) }
     ensures unchanged { IsHonest (state S.Store conn.new) →
         OnErr result (content_now (state S.Store conn.new) ≡ content_now (state S.Store conn.old)) }
-    ensures version { KeepsVersion (state S.Store conn.old) (state S.Store conn.new) }
+    ensures version { IsHonest (state S.Store conn.new) →
+        version_in (state S.Store conn.new).now.trees ≡ version_in (state S.Store conn.old).now.trees }
     ensures open { HasCleanDisk (state S.Store conn.new) → OnOk result (changes.now ≢ [] →
         IsHonest (state S.Store conn.new)) }
     ensures crash { Survives (state S.Store conn.old) (state S.Store conn.new) (λ trees.

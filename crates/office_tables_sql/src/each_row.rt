@@ -2,17 +2,11 @@
 
 ghost use Rattle.std.specs.Prelude.{◌≡◌, ◌≢◌, ℕ, List, [], ◌∷◌, ◌++◌, filter, IfOk, OnOk};
 ghost use Rattle.std.specs.List.{AllByRecursion};
-ghost use Rattle.sqlite.specs.Held.{state};
-ghost use Rattle.sqlite.specs.Values.{bound};
-ghost use Rattle.cabinet_core.specs.Orders.{is_open};
-ghost use Rattle.cabinet_core.specs.Overdue.{latest_day};
-ghost use Rattle.office_tables_shelf.specs.CabinetReads.{of_one, HasAnyDamagedInspection, HasAnyDamagedOrder};
-ghost use Rattle.office_tables_shelf.specs.OpenOrders.{orders_in, ReadsOpen};
-ghost use Rattle.office_tables_shelf.specs.Overdue.{last_day_in, ReadsLast};
-ghost use Rattle.office_tables_statements.specs.Stored.{content_now};
-ghost use Rattle.office_tables_statements.specs.Calls.{IsHonest, IsOffice};
-ghost use Rattle.office_tables_statements.specs.Tables.{params_of, ListsRows};
-ghost use Rattle.office_tables_sql.specs.Kept.{Gathers, HasDamage, LooksUp};
+ghost use Rattle.sqlite.specs.{Held.state, Values.bound};
+ghost use Rattle.cabinet_core.specs.{Orders.is_open, Overdue.latest_day};
+ghost use Rattle.office_tables_shelf.specs.{CabinetReads.of_one, CabinetReads.HasAnyDamagedInspection, CabinetReads.HasAnyDamagedOrder, OpenOrders.orders_in, OpenOrders.ReadsOpen, Overdue.last_day_in, Overdue.ReadsLast};
+ghost use Rattle.office_tables_statements.specs.{Stored.content_now, Calls.IsHonest, Calls.IsOffice, Tables.params_of, Tables.ListsRows};
+ghost use Rattle.office_tables_sql.specs.{Kept.Gathers, Kept.HasDamage, Promises.LooksUp};
 
 use crate::stored_row::StoredRow;
 use cabinet_core::{Day, Inspection, Order};

@@ -1,24 +1,17 @@
 //! The tables of intersections and their plans: `intersection`, whose key is the rowid, `timing`,
 //! the rows of the committed sets, and `draft`, the changes that a draft keeps.
 
-ghost use Rattle.std.specs.Prelude.{◌≡◌, ◌≢◌, [], ◌∷◌, pos, length, Option, Some, None, IfOk, IfSome, refl};
-ghost use Rattle.sqlite.specs.Held.{state};
-ghost use Rattle.sqlite.specs.Order.{column};
-ghost use Rattle.sqlite.specs.Values.{bound_value};
+ghost use Rattle.std.specs.Prelude.{ℕ, true, ◌≡◌, ◌≢◌, [], ◌∷◌, pos, length, Option, Some, None, IfOk, IfSome, refl};
+ghost use Rattle.sqlite.specs.{Held.state, Order.column, Values.bound_value};
 ghost use Rattle.sqlite_value.specs.Value.{owned};
 ghost use Rattle.signal_values.specs.Words.{AreWords};
-ghost use Rattle.signal_records.specs.Row.{key_of};
-ghost use Rattle.signal_records.specs.Within.{IsRowWithin, IsChangeWithin, current_limits};
-ghost use Rattle.signal_records.specs.declared.state.Holder.{Holder};
-ghost use Rattle.signal_records.specs.declared.state.Stage.{Stage};
-ghost use Rattle.office_tables_shelf.specs.Cells.{number};
+ghost use Rattle.signal_records.specs.{Row.key_of, Within.IsRowWithin, Within.IsChangeWithin, Within.current_limits, declared.state.Holder.Holder, declared.state.Stage.Stage};
+ghost use Rattle.office_tables_shelf.specs.{Cells.number, Shelf.rows_of, declared.rows.Table.TheVariants.Intersection, declared.rows.Table.TheVariants.Timing, declared.rows.Table.TheVariants.Draft};
 ghost use Rattle.office_tables_shelf.specs.Rows.{intersection_key, intersection_columns, IsIntersectionRow, timing_key, timing_columns, draft_key, draft_columns, stage_number, state_number, owner_cell};
-ghost use Rattle.office_tables_shelf.specs.Shelf.{rows_of};
-ghost use Rattle.office_tables_shelf.specs.declared.rows.Table.TheVariants.{Intersection, Timing, Draft};
 ghost use Rattle.office_tables_statements.specs.Calls.{IsHonest, IsOffice, Keeps, StaysOpen};
-ghost use Rattle.office_tables_statements.specs.Stored.{cell_of, content_now};
-ghost use Rattle.office_tables_statements.specs.Tables.{value_of, values_of};
+ghost use Rattle.office_tables_statements.specs.{Stored.cell_of, Stored.content_now, Tables.suits_kind, Tables.takes, Tables.value_of, Tables.values_of};
 ghost use Rattle.office_tables_sql.specs.Kept.{keep};
+ghost use Rattle.sqlite.specs.Kind.TheVariants as kind;
 
 use crate::stored_row::{Bound, StoredRow, Texts, WalkedRow, texts};
 use office_tables_shelf::rows::IntersectionRow;
@@ -61,7 +54,6 @@ impl StoredRow for IntersectionRow {
         })
     }
 
-    #[tactic(auto, using(crate::proofs::Taken::takes_holder))]
     fn bind<'a>(&'a self, alloc: Global, id: InterId, _text: &'a mut String) -> Bound<'a> {
         let (state, owner) = holder_values(&self.holder);
         let name = self.name.as_str().to_sql();
@@ -127,6 +119,7 @@ fn stage_of(state: u32) -> Option<Stage>
 fn holder_values(holder: &Option<Holder>) -> (u32, ValueRef<'_>)
     ensures state { result.0 ≡ state_number holder.now }
     ensures owner { bound_value (owned result.1) ≡ value_of (owner_cell holder.now) }
+    ensures taken { suits_kind kind.Text (owner_cell holder.now) ≡ true }
 {
     let Some(holder) = holder else {
         return (0, ValueRef::Null);
@@ -202,8 +195,10 @@ fn left_body<'a>(
     change: &Change,
     text: &'a mut String,
 ) -> Result<ValueRef<'a>, NoMemory>
-    ensures { IfOk result (λ body.
+    ensures bound { IfOk result (λ body.
         bound_value (owned body) ∷ [] ≡ values_of (draft_columns change.now)) }
+    ensures taken { (id : ℕ) → takes Draft (draft_key id change.now)
+        (draft_columns change.now) ≡ true }
 {
     match change {
         Change::Put(row) => {
@@ -239,7 +234,6 @@ impl StoredRow for Change {
         Ok(Change::Put(found))
     }
 
-    #[tactic(auto, using(crate::proofs::Taken::takes_change))]
     fn bind<'a>(&'a self, alloc: Global, id: InterId, text: &'a mut String) -> Bound<'a> {
         let key = changed_key(self);
         let id = id.get().to_sql();

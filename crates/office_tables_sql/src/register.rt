@@ -4,7 +4,7 @@ ghost use Rattle.std.specs.Prelude.{IfOk, IfSome};
 ghost use Rattle.sqlite.specs.Held.{state};
 ghost use Rattle.office_tables_shelf.specs.Places.{DamagedAt, IsOfPlace, ReadsAt, found_at, place_of};
 ghost use Rattle.office_tables_statements.specs.Calls.{IsOffice};
-ghost use Rattle.office_tables_sql.specs.Kept.{LooksUp};
+ghost use Rattle.office_tables_sql.specs.Promises.{LooksUp};
 
 use crate::stored_row::find;
 use cabinet_core::{Delivery, Hand, Inspection, Order, PartCode, UsedLine};

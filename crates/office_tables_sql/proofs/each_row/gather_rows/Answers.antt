@@ -6,9 +6,8 @@ use Rattle.office_tables_shelf.specs.declared.shelf.ShelfFault.TheVariants.{Dama
 use Rattle.office_tables_statements.specs.{Calls.IsHonest, Calls.Keeps, Stored.content_now, Tables.params_of, Tables.row_shown, Tables.stored_for}
 use Rattle.office_tables_sql.specs.Kept.{Gathers, HasDamage}
 use Rattle.office_tables_statements.proofs.StoredLists.{lists, width, damaged_at}
-use Rattle.office_tables_sql.proofs.each_row.gather_rows.Given.{Over}
+use Rattle.office_tables_sql.proofs.each_row.gather_rows.{Given.Over, Goals.In_default}
 use Rattle.office_tables_statements.proofs.CallLemmas.{survives_on, queried_survives, unqueried_keeps, starts, still_keeps, broken_keeps, all_read, some_read, has_mid, one_more}
-use Rattle.office_tables_sql.proofs.each_row.gather_rows.Goals.{In_default}
 use Rattle.office_tables_sql.proofs.each_row.gather_rows.Goals as goal
 
 -- what the call left once the query was asked for one more row

@@ -3,8 +3,7 @@ use Rattle.sqlite_tied.specs.Compute.{everything}
 use Rattle.sqlite.specs.{declared.types.Value.TheVariants.Int, Held.state}
 use Rattle.office_tables_shelf.specs.declared.rows.Table.TheVariants.{Timing}
 use Rattle.office_tables_sql.specs.declared.plan.TheConstants.{COUNT}
-use Rattle.office_tables_statements.specs.Calls.{Reads}
-use Rattle.office_tables_statements.specs.Tables.{IsCountText}
+use Rattle.office_tables_statements.specs.{Calls.Reads, Tables.IsCountText}
 use Rattle.office_tables_statements.proofs.StoredLists.{counts}
 use Rattle.office_tables_sql.proofs.plan.count.Goals as goal
 

@@ -1,7 +1,6 @@
 use Rattle.std.proofs.Common.{◌≡◌, Err, rules}
 use Rattle.sqlite.specs.Held.{state}
-use Rattle.office_tables_shelf.specs.Places.{Part, DamagedAt}
-use Rattle.office_tables_shelf.specs.declared.shelf.ShelfFault.TheVariants.{Damaged}
+use Rattle.office_tables_shelf.specs.{Places.Part, Places.DamagedAt, declared.shelf.ShelfFault.TheVariants.Damaged}
 use Rattle.office_tables_statements.specs.{Calls.IsHonest, Stored.content_now}
 use Rattle.office_tables_sql.proofs.register.record_at.Goals as goal
 

@@ -1,7 +1,6 @@
 use Rattle.std.proofs.Common.{rules, ◌≡◌, ◌∙◌, sym, ap, arith, ◌≤◌, length}
 use Rattle.sqlite.specs.Order.{column}
-use Rattle.signal_records.specs.{Row.key_of, Within.IsChangeWithin, Within.current_limits}
-use Rattle.signal_records.specs.declared.record.Change.{Change, TheVariants.Put, TheVariants.Remove}
+use Rattle.signal_records.specs.{Row.key_of, Within.IsChangeWithin, Within.current_limits, declared.record.Change.Change, declared.record.Change.TheVariants.Put, declared.record.Change.TheVariants.Remove}
 use Rattle.office_tables_shelf.specs.Rows.{timing_key, draft_key, draft_columns}
 use Rattle.office_tables_statements.specs.{Listed.shown_key, Listed.shown_body, Stored.cell_of}
 use Rattle.office_tables_statements.proofs.BodyReading.{same_stored}
