@@ -106,6 +106,7 @@ impl WalkedRow for Order {
 
 /// The closing of an order, by the day in column 5 and the clerk in column 6, which are both NULL
 /// while the order is open. `Damaged` means that only one is, or that one is no day or no name.
+#[tactic(auto, using(crate::proofs::Shown::no_closer))]
 fn closing_at(alloc: Global, row: &Row) -> Result<Option<Closing>, ShelfFault>
     ensures day { IfOk result (λ closing. cell_of (column row.now 5) ≡ closed_cell closing) }
     ensures closer { IfOk result (λ closing. cell_of (column row.now 6) ≡ closer_cell closing) }

@@ -1,6 +1,6 @@
 //! Rows of a table, read one at a time.
 
-ghost use Rattle.std.specs.Prelude.{◌≡◌, ◌≢◌, ℕ, List, [], ◌∷◌, ◌++◌, filter, IfOk, OnOk};
+ghost use Rattle.std.specs.Prelude.{◌≡◌, ℕ, List, [], ◌∷◌, ◌++◌, filter, IfOk, OnOk};
 ghost use Rattle.std.specs.List.{AllByRecursion};
 ghost use Rattle.sqlite.specs.{Held.state, Values.bound};
 ghost use Rattle.cabinet_core.specs.{Orders.is_open, Overdue.latest_day};
@@ -16,7 +16,7 @@ use office_tables_shelf::shelf::ShelfFault;
 use office_tables_statements::statement::SqlFault;
 use signal_records::{InterId, NoMemory};
 use sqlite::types::ValueRef;
-use sqlite::{Alter, Connection, Error, params};
+use sqlite::{Alter, Connection, params};
 use std::alloc::Global;
 use std::collections::BTreeMap;
 
@@ -60,13 +60,6 @@ impl Gather<(InterId, Order)> for BTreeMap<InterId, Vec<Order>> {
     }
 }
 
-/// The fault by which a shelf tells an error of the database: `NoMemory` or `Store`.
-fn shelf_fault(error: Error) -> ShelfFault
-    ensures { result ≢ ShelfFault.Damaged }
-{
-    ShelfFault::from(SqlFault::from(error))
-}
-
 /// The rows of a list, in the order of their keys. `params` are those of its query: the
 /// intersection, or none where it lists all rows. `Damaged` means that one of them is no record,
 /// `Store` that the database refused, `NoMemory` that a growth was refused.
@@ -106,11 +99,11 @@ fn gather_rows<T: StoredRow, G: Gather<T>, S: Alter>(
     let mut found = begun;
     let mut rows = match conn.query(T::texts().list, params) {
         Ok(rows) => rows,
-        Err(error) => return Err(shelf_fault(error)),
+        Err(error) => return Err(ShelfFault::from(SqlFault::from(error))),
     };
     'rows: for _ in 0..u64::MAX {
         if let Err(error) = rows.advance() {
-            return Err(shelf_fault(error));
+            return Err(ShelfFault::from(SqlFault::from(error)));
         }
         let Some(row) = rows.get() else {
             return Ok(found);

@@ -76,6 +76,7 @@ impl WalkedRow for IntersectionRow {
 
 /// Who holds the draft, by the state in column 4 and the owner in column 5. State 0 is Normal, and
 /// has no owner; each other state, 1 to 3, has one. Any other pair is `Damaged`.
+#[tactic(auto, using(crate::proofs::Shown::no_owner))]
 fn holder_at(alloc: Global, row: &SqlRow) -> Result<Option<Holder>, ShelfFault>
     ensures state { IfOk result (λ holder.
         cell_of (column row.now 4) ≡ number (pos (state_number holder))) }
@@ -160,11 +161,11 @@ impl StoredRow for Row {
     fn bind<'a>(&'a self, alloc: Global, id: InterId, text: &'a mut String) -> Bound<'a> {
         *text = write_body(alloc, self)?;
         let key = self.key();
-        let id = id.get().to_sql();
         let kind = key.kind().to_sql();
         let first = key.first().to_sql();
         let second = key.second().to_sql();
-        Ok(vec![in alloc; id, kind, first, second, text.as_str().to_sql()]?)
+        let body = text.as_str().to_sql();
+        Ok(vec![in alloc; id.get().to_sql(), kind, first, second, body]?)
     }
 }
 
@@ -236,10 +237,10 @@ impl StoredRow for Change {
 
     fn bind<'a>(&'a self, alloc: Global, id: InterId, text: &'a mut String) -> Bound<'a> {
         let key = changed_key(self);
-        let id = id.get().to_sql();
         let kind = key.kind().to_sql();
         let first = key.first().to_sql();
         let second = key.second().to_sql();
-        Ok(vec![in alloc; id, kind, first, second, left_body(alloc, self, text)?]?)
+        let body = left_body(alloc, self, text)?;
+        Ok(vec![in alloc; id.get().to_sql(), kind, first, second, body]?)
     }
 }

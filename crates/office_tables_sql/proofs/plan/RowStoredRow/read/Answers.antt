@@ -1,14 +1,8 @@
-use Rattle.std.proofs.Common.{rules, ◌∙◌, sym, ap, arith, ◌≤◌, length}
-use Rattle.sqlite.specs.Order.{column}
-use Rattle.signal_records.specs.Row.{key_of}
-use Rattle.office_tables_shelf.specs.Rows.{timing_key}
-use Rattle.office_tables_statements.specs.Stored.{cell_of}
-use Rattle.office_tables_statements.proofs.BodyReading.{same_stored}
+use Rattle.std.proofs.Common.{rules, arith}
+use Rattle.office_tables_sql.proofs.Shown.{no_row}
 use Rattle.office_tables_sql.proofs.plan.RowStoredRow.read.Goals as goal
 
 pub returns-in_err-check_key-clause-damaged : goal.returns-in_err-check_key-clause-damaged
-returns-in_err-check_key-clause-damaged c is wide found within same body =
+returns-in_err-check_key-clause-damaged c is wide =
     let mine = rw c.in-Some.is at c.in_ok-found.ensures.row in
-    let one = same_stored (cell_of (column c.args.row.now 4)) found c.in-Some.found within mine.1 body mine.0 in
-    let room : 4 ≤ length c.args.row.now = omega (arith, wide) in
-    c.check_key.ensures.damaged (search rules) room (same ∙ ap (λ r. timing_key c.args.id (key_of r)) one ∙ sym (ap (timing_key c.args.id) c.key.ensures))
+    no_row _ _ c.args.id c.in-Some.found mine.0 mine.1 (rw c.key.ensures at (c.check_key.ensures.damaged (search rules) (omega (arith, wide))))
