@@ -1,5 +1,5 @@
 -- Which rows an answered command changes.
-use Rattle.std.specs.Prelude.{ℕ, ◌+◌, ◌≤◌, Bool, true, false, cond, IsTrue, List, [], ◌∷◌, length}
+use Rattle.std.specs.Prelude.{ℕ, ◌+◌, ◌≤◌, Bool, true, false, cond, T, List, [], ◌∷◌, length}
 use Rattle.office_tables_shelf.specs.{Content.Content, Counts.count_of, Shelf.rows_of, declared.counts.WriteCounts.WriteCounts, declared.rows.Table.Table}
 use Rattle.cabinet_core.specs.declared.command.RecordCommand.{RecordCommand}
 use Rattle.office_tables_decisions.specs.RecordBounds.{most_record_writes}
@@ -24,7 +24,7 @@ is_query (command.Overdue day) = true
 is_query _ = false
 
 abbrev pub IsQueryCommand : Command → Type 0
-IsQueryCommand command = IsTrue (is_query command)
+IsQueryCommand command = T (is_query command)
 
 -- the most rows of an intersection that a command writes: one, and a command of the register or a query none
 abbrev pub most_intersection_writes : Command → ℕ
