@@ -140,7 +140,7 @@ record_decides is_honest tables c t before rows decided none is list takes withi
       refused = λ refused. list ∙ none_before.refused (subst IsRefused is refused);
       query = λ query. absurd query;
       named = λ why e. none_before.named why (sym is ∙ e);
-      undamaged = λ e. none_before.undamaged (sym is ∙ e);
+      damaged = λ e. none_before.undamaged (sym is ∙ e);
     }
 
 -- ---- queries

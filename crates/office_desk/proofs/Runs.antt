@@ -108,7 +108,7 @@ decided_answers is_honest tables command decided is = record {
   refused = is.refused;
   query = is.query;
   named = λ why told. inr (inr (is.named why told));
-  damaged = λ told. absurd (is.undamaged told);
+  damaged = λ told. absurd (is.damaged told);
 }
 
 -- and a fault as its refusal

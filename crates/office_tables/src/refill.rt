@@ -9,7 +9,7 @@ ghost use Rattle.office_tables.specs.Moved.{row_put, all_put};
 
 use crate::gather::Moved;
 use office_tables_shelf::rows::Table;
-use office_tables_sql::insert_text::insert_of;
+use office_tables_sql::change::insert_of;
 use office_tables_statements::parts::WantedColumn;
 use office_tables_statements::statement::{SqlFault, write};
 use office_tables_statements::tables::{columns_of, keys_of};

@@ -11,7 +11,7 @@ use office_tables_shelf::counts::WriteCounts;
 use office_tables_shelf::register::{RegisterKey, RegisterRecord};
 use office_tables_shelf::rows::{IntersectionRow, RowChange, Table};
 use office_tables_shelf::shelf::{Shelf, ShelfFault};
-use office_tables_sql::{change, each_row, inspection, order, register, stored_row, timing};
+use office_tables_sql::{change, each_row, plan, register, stored_row};
 use signal_records::{Change, InterId, Row};
 use sqlite::{Alter, Connection, FileStore, params};
 use sqlite_disk::Disk;
@@ -171,7 +171,7 @@ impl<S: Alter> Shelf for SqlShelf<S> {
     }
 
     fn committed_count(&mut self, _alloc: Global, id: InterId) -> Result<usize, ShelfFault> {
-        let count = timing::count(&mut self.conn, id)?;
+        let count = plan::count(&mut self.conn, id)?;
         Ok(count)
     }
 
@@ -192,7 +192,7 @@ impl<S: Alter> Shelf for SqlShelf<S> {
     }
 
     fn last_inspections(&mut self, alloc: Global) -> Result<BTreeMap<InterId, Day>, ShelfFault> {
-        inspection::last_days(alloc, &mut self.conn)
+        each_row::last_days(alloc, &mut self.conn)
     }
 
     fn orders(&mut self, alloc: Global, id: InterId) -> Result<Vec<Order>, ShelfFault> {
@@ -200,7 +200,7 @@ impl<S: Alter> Shelf for SqlShelf<S> {
     }
 
     fn open_orders(&mut self, alloc: Global) -> Result<BTreeMap<InterId, Vec<Order>>, ShelfFault> {
-        order::open_orders(alloc, &mut self.conn)
+        each_row::open_orders(alloc, &mut self.conn)
     }
 
     fn used_lines(&mut self, alloc: Global, id: InterId) -> Result<Vec<UsedLine>, ShelfFault> {

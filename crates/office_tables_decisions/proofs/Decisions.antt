@@ -1,42 +1,31 @@
 -- Decisions that write nothing.
 use Rattle.std.proofs.Common.{◌≡◌, ◌≢◌, ◌≤◌, ℕ, List, [], Result, Ok, Err, ap, inr, sym, subst, subst₂, ◌∙◌, arith}
 use Rattle.std.specs.Prelude.{IsErrAnd}
-use Rattle.office_tables_shelf.specs.{Change.AddNew, Change.changed_by, Content.Content, Counts.writes_in}
-use Rattle.office_tables_shelf.specs.declared.{rows.RowChange.RowChange, rows.Table.Table, shelf.ShelfFault.ShelfFault}
-use Rattle.office_tables_shelf.specs.declared.shelf.ShelfFault.TheVariants.{Damaged}
-use Rattle.office_tables_decisions.specs.{RecordBounds.IsOneOf, Answers.Answers, Answers.AnswersAny, Changes.IsQueryCommand, Changes.IsRefused, Changes.most_writes, Damage.MeetsDamage, Deciding.Decides, Deciding.IsDecision, Named.RefusesBy, Named.number_of, Named.numbers_of, declared.decided.Decided.Decided}
-use Rattle.office_tables_decisions.specs.StandFor.{StandForSound}
-use Rattle.office_machine.specs.{Office.Office, Step.answered}
-use Rattle.office_machine.specs.declared.{command.Command.Command, refusal.Refusal.Refusal, reply.Reply.Reply, reply.Reply.TheVariants.Refused}
+use Rattle.office_tables_shelf.specs.{Change.AddNew, Change.changed_by, Content.Content, Counts.writes_in, declared.rows.RowChange.RowChange, declared.rows.Table.Table, declared.shelf.ShelfFault.ShelfFault, declared.shelf.ShelfFault.TheVariants.Damaged}
+use Rattle.office_tables_decisions.specs.{RecordBounds.IsOneOf, Answers.Answers, Answers.AnswersAny, Changes.IsQueryCommand, Changes.IsRefused, Changes.most_writes, Damage.MeetsDamage, Deciding.Decides, Deciding.IsDecision, Named.RefusesBy, Named.number_of, Named.numbers_of, declared.decided.Decided.Decided, StandFor.StandForSound}
+use Rattle.office_machine.specs.{Office.Office, Step.answered, declared.command.Command.Command, declared.refusal.Refusal.Refusal, declared.reply.Reply.Reply, declared.reply.Reply.TheVariants.Refused}
 use Rattle.office_machine.specs.declared.refusal.Refusal.TheVariants as refusal
 
 -- a refusal whose number is one of them
 pub refuses_so : (numbers : List ℕ) (told : Refusal) → IsOneOf numbers (number_of told) → RefusesBy numbers (Refused told)
 refuses_so numbers told among why e = subst (λ w. IsOneOf numbers (number_of w)) (let same : Refused told ≡ Refused why = e in let here : told ≡ why = cc in here) among
 
--- what leaves the office is answered as the office says
-pub query_answers : (tables : Content) (office : Office) (command : Command) (said told : Reply) (changes : List RowChange)
-    → StandForSound tables office → answered office command ≡ (said, office) → told ≡ said → changes ≡ []
-    → Answers office command told (changed_by tables changes)
-query_answers tables office command said told changes stands is same none = record {
-  next = office;
-  step = inr (is ∙ (λ k. (sym same k, office)));
-  stand = subst (λ list. StandForSound (changed_by tables list) office) (sym none) stands;
-}
-
 -- a refusal, or what a query shows: a decision without a row to write
 pub told_decides : (is_honest : Type 0) (tables : Content) (command : Command) (said : Reply) (decided : Decided) → decided.reply ≡ said → said ≢ Refused refusal.Damaged → RefusesBy (numbers_of command) said → decided.changes.items ≡ []
     → (is_honest → (office : Office) → StandForSound tables office → answered office command ≡ (said, office))
     → IsDecision is_honest tables command decided
 told_decides is_honest tables command said decided is never named none answers = record {
-  step = λ honest office stands. query_answers tables office command said decided.reply
-      decided.changes.items stands (answers honest office stands) is none;
+  step = λ honest office stands. record {
+    next = office;
+    step = inr (answers honest office stands ∙ (λ k. (sym is k, office)));
+    stand = subst (λ list. StandForSound (changed_by tables list) office) (sym none) stands;
+  };
   writes = λ honest table. subst (λ (list : List RowChange). writes_in table list ≤ most_writes tables command table) (sym none) (omega arith);
   news = λ honest. subst (AddNew tables) (sym none) tt;
   refused = λ _. none;
   query = λ _. none;
   named = λ why e. named why (sym is ∙ e);
-  undamaged = λ e. never (sym is ∙ e);
+  damaged = λ e. never (sym is ∙ e);
 }
 
 -- of an intersection that is not there
@@ -59,7 +48,7 @@ accepted_decides is_honest tables command said rows decided is same accepted ask
   refused = λ refused. absurd (accepted (subst IsRefused is refused));
   query = λ query. absurd (asks query);
   named = λ why e. absurd (accepted (subst IsRefused (sym e ∙ is) tt));
-  undamaged = λ e. absurd (accepted (subst IsRefused (sym e ∙ is) tt));
+  damaged = λ e. absurd (accepted (subst IsRefused (sym e ∙ is) tt));
 }
 
 -- a fault that is handed on, and reports damage only where the command meets it
@@ -67,9 +56,3 @@ pub handed_decides : (is_honest : Type 0) (tables : Content) (command : Command)
     → IsErrAnd result (λ e. e ≡ fault) → (fault ≡ Damaged → is_honest → MeetsDamage tables command) → Decides is_honest tables command result
 handed_decides is_honest tables command fault (Ok decided) is damage = absurd is
 handed_decides is_honest tables command fault (Err other) is damage = λ damaged. damage (sym is ∙ damaged)
-
--- of a call whose clause speaks of its result
-pub fault_decides : {A : Type 0} (is_honest : Type 0) (tables : Content) (command : Command) (fault : ShelfFault) (inner : Result A ShelfFault) (result : Result Decided ShelfFault)
-    → inner ≡ Err fault → IsErrAnd result (λ e. e ≡ fault) → (inner ≡ Err Damaged → is_honest → MeetsDamage tables command) → Decides is_honest tables command result
-fault_decides is_honest tables command fault inner result was is damage =
-    handed_decides is_honest tables command fault result is (λ damaged. damage (was ∙ ap (λ (f : ShelfFault). Err f) damaged))

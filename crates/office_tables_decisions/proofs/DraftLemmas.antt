@@ -2,9 +2,7 @@
 use Rattle.std.proofs.Common.{◌≡◌, inl, inr, ℕ, List, [], ◌∷◌, map, Option, None, Some, option_map, refl, sym, ap, ◌∙◌}
 use Rattle.std.proofs.lemmas.Bool.{cases_Bool}
 use Rattle.std.specs.{FinMap.get, List.Sorted.IsStrictlySortedBy, Ordering.eq_by_cmp}
-use Rattle.signal_records.specs.{Key.key_cmp, declared.key.Key.Key, declared.record.Change.Change, declared.record.Change.TheVariants.Put}
-use Rattle.signal_records.specs.declared.record.Change.TheVariants.{Remove}
-use Rattle.signal_records.specs.ChangedRows.{changed_key}
+use Rattle.signal_records.specs.{Key.key_cmp, declared.key.Key.Key, declared.record.Change.Change, declared.record.Change.TheVariants.Put, declared.record.Change.TheVariants.Remove, ChangedRows.changed_key}
 use Rattle.draft_core.specs.DraftRows.{Said, silent, leaves, removes, said_by, later_of, row_at}
 use Rattle.office_tables_shelf.specs.{Content.Content, Rows.timing_key, Rows.draft_columns, Shelf.ListsDraft}
 use Rattle.office_tables_shelf.proofs.CellLemmas.{tied}

@@ -1,7 +1,6 @@
 -- Reads of a shelf, one after the other.
 use Rattle.std.proofs.Common.{◌≡◌, Result, Ok, Err, IsErrAnd, refl, sym, subst, ◌∙◌}
-use Rattle.office_tables_shelf.specs.{Keeps.ReadsShelf, Shelf.IsTold, declared.shelf.Shelf.Ghosts, declared.shelf.ShelfFault.ShelfFault}
-use Rattle.office_tables_shelf.specs.declared.shelf.ShelfFault.TheVariants.{Damaged}
+use Rattle.office_tables_shelf.specs.{Keeps.ReadsShelf, Shelf.IsTold, declared.shelf.Shelf.Ghosts, declared.shelf.ShelfFault.ShelfFault, declared.shelf.ShelfFault.TheVariants.Damaged}
 use Rattle.office_tables_shelf.proofs.KeptLemmas.{kept_on}
 use Rattle.office_tables_decisions.specs.Reads.{OnlyReads, Reports}
 
@@ -28,16 +27,6 @@ module _ {S : Type 0} (g : Ghosts S) where
     clean_before = λ clean. clean;
     stays = λ clean told honest. honest;
     read = λ reading clean told. never reading told;
-  }
-
-  -- a read after others, that is sure to read
-  pub reads_then : {A B : Type 0} (before reads : Type 0) (given : Result A ShelfFault) (result : Result B ShelfFault) (old mid new : S)
-      → HasRead g before old mid → ReadsShelf g given mid new → (IsTold result → IsTold given) → OnlyReads g reads result old new
-  reads_then before reads given result old mid new first rest tells = record {
-    kept = kept_on _ _ _ _ old mid new first.kept rest.kept;
-    clean_before = λ clean. first.clean_before (rest.clean_before clean);
-    stays = λ clean told honest. rest.told clean (tells told);
-    read = λ reading clean told. rest.told clean (tells told);
   }
 
   -- a read that is sure to read, whose result is told on

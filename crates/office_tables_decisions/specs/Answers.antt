@@ -1,10 +1,7 @@
 -- What it means that a command was answered rightly, on tables that stand for an office.
 use Rattle.std.specs.Prelude.{◌≡◌}
 use Rattle.office_tables_shelf.specs.Content.{Content}
-use Rattle.office_machine.specs.declared.command.Command.{Command}
-use Rattle.office_machine.specs.declared.reply.Reply.{Reply}
-use Rattle.office_machine.specs.Office.{Office}
-use Rattle.office_machine.specs.Step.{Step, answered}
+use Rattle.office_machine.specs.{declared.command.Command.Command, declared.reply.Reply.Reply, Office.Office, Step.Step, Step.answered}
 use Rattle.office_tables_decisions.specs.StandFor.{StandForSound}
 
 -- From an office, the reply is that of a step, and the tables stand for a sound office after it.

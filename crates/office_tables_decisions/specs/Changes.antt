@@ -1,17 +1,11 @@
 -- Which rows an answered command changes.
-use Rattle.std.specs.Prelude.{ℕ, ◌+◌, ◌≤◌, List, [], ◌∷◌, length}
-use Rattle.office_tables_shelf.specs.Content.{Content}
-use Rattle.office_tables_shelf.specs.Counts.{count_of}
-use Rattle.office_tables_shelf.specs.Shelf.{rows_of}
-use Rattle.office_tables_shelf.specs.declared.counts.WriteCounts.{WriteCounts}
-use Rattle.office_tables_shelf.specs.declared.rows.Table.{Table}
-use Rattle.office_tables_shelf.specs.declared.rows.Table.TheVariants as table
+use Rattle.std.specs.Prelude.{ℕ, ◌+◌, ◌≤◌, Bool, true, false, cond, T, List, [], ◌∷◌, length}
+use Rattle.office_tables_shelf.specs.{Content.Content, Counts.count_of, Shelf.rows_of, declared.counts.WriteCounts.WriteCounts, declared.rows.Table.Table}
 use Rattle.cabinet_core.specs.declared.command.RecordCommand.{RecordCommand}
 use Rattle.office_tables_decisions.specs.RecordBounds.{most_record_writes}
-use Rattle.office_machine.specs.declared.command.Command.{Command}
+use Rattle.office_machine.specs.declared.{command.Command.Command, reply.Reply.Reply, reply.Reply.TheVariants.Refused}
+use Rattle.office_tables_shelf.specs.declared.rows.Table.TheVariants as table
 use Rattle.office_machine.specs.declared.command.Command.TheVariants as command
-use Rattle.office_machine.specs.declared.reply.Reply.{Reply}
-use Rattle.office_machine.specs.declared.reply.Reply.TheVariants.{Refused}
 
 -- the reply is a refusal
 abbrev pub IsRefused : Reply → Type 0
@@ -19,58 +13,43 @@ IsRefused (Refused refusal) = Unit {0}
 IsRefused _ = ⊥
 
 -- the command is a query: it changes nothing
+abbrev pub is_query : Command → Bool
+is_query (command.State id) = true
+is_query (command.Timing id) = true
+is_query (command.Draft id) = true
+is_query (command.Cabinet id) = true
+is_query (command.OpenOrders id) = true
+is_query command.Stock = true
+is_query (command.Overdue day) = true
+is_query _ = false
+
 abbrev pub IsQueryCommand : Command → Type 0
-IsQueryCommand (command.State id) = Unit {0}
-IsQueryCommand (command.Timing id) = Unit {0}
-IsQueryCommand (command.Draft id) = Unit {0}
-IsQueryCommand (command.Cabinet id) = Unit {0}
-IsQueryCommand (command.OpenOrders id) = Unit {0}
-IsQueryCommand command.Stock = Unit {0}
-IsQueryCommand (command.Overdue day) = Unit {0}
-IsQueryCommand _ = ⊥
-
--- the most timing rows that a command writes: a commit one for each draft row, any other none
-abbrev pub most_timing_writes : Content → Command → ℕ
-most_timing_writes tables (command.Commit id clerk) = length (rows_of id tables.draft)
-most_timing_writes tables _ = 0
-
--- the most draft rows that a command writes: an edit one for each change, a commit and an abandon one for each draft row, any other none
-abbrev pub most_draft_writes : Content → Command → ℕ
-most_draft_writes tables (command.Edit id clerk changes) = length changes
-most_draft_writes tables (command.Commit id clerk) = length (rows_of id tables.draft)
-most_draft_writes tables (command.Abandon id clerk) = length (rows_of id tables.draft)
-most_draft_writes tables _ = 0
+IsQueryCommand command = T (is_query command)
 
 -- the most rows of an intersection that a command writes: one, and a command of the register or a query none
 abbrev pub most_intersection_writes : Command → ℕ
 most_intersection_writes (command.Record c) = 0
 most_intersection_writes (command.Import records) = 0
-most_intersection_writes (command.State id) = 0
-most_intersection_writes (command.Timing id) = 0
-most_intersection_writes (command.Draft id) = 0
-most_intersection_writes (command.Cabinet id) = 0
-most_intersection_writes (command.OpenOrders id) = 0
-most_intersection_writes command.Stock = 0
-most_intersection_writes (command.Overdue day) = 0
-most_intersection_writes _ = 1
+most_intersection_writes command = cond (is_query command) 0 1
 
 -- the most rows of a table of the register that the records of an import write together
 abbrev pub most_import_writes : List RecordCommand → Table → ℕ
 most_import_writes [] table = 0
 most_import_writes (c ∷ cs) table = most_record_writes c table + most_import_writes cs table
 
--- the most rows of a table of the register that a command writes
-abbrev pub most_register_writes : Command → Table → ℕ
-most_register_writes (command.Record c) table = most_record_writes c table
-most_register_writes (command.Import records) table = most_import_writes records table
-most_register_writes _ table = 0
-
--- the most rows of each table that a command writes
+-- The most rows of each table that a command writes. Of timing and draft rows, a commit writes one for each draft row, an edit and an abandon draft rows
+-- alone: one for each change, and one for each draft row.
 abbrev pub most_writes : Content → Command → Table → ℕ
 most_writes tables command table.Intersection = most_intersection_writes command
-most_writes tables command table.Timing = most_timing_writes tables command
-most_writes tables command table.Draft = most_draft_writes tables command
-most_writes tables command table = most_register_writes command table
+most_writes tables (command.Commit id clerk) table.Timing = length (rows_of id tables.draft)
+most_writes tables _ table.Timing = 0
+most_writes tables (command.Edit id clerk changes) table.Draft = length changes
+most_writes tables (command.Commit id clerk) table.Draft = length (rows_of id tables.draft)
+most_writes tables (command.Abandon id clerk) table.Draft = length (rows_of id tables.draft)
+most_writes tables _ table.Draft = 0
+most_writes tables (command.Record c) table = most_record_writes c table
+most_writes tables (command.Import records) table = most_import_writes records table
+most_writes tables _ _ = 0
 
 -- the counts rise at most by the most that the command writes
 abbrev pub RiseAtMost : Content → Command → WriteCounts → WriteCounts → Type 0

@@ -1,11 +1,8 @@
 -- The committed set of an intersection, as its rows spell it.
 use Rattle.std.specs.Prelude.{◌≡◌, ℕ, List}
 use Rattle.std.specs.List.{AllByRecursion}
-use Rattle.signal_records.specs.TimingSet.{Rows, set_of_rows}
-use Rattle.signal_records.specs.Within.{IsRowWithin, current_limits}
-use Rattle.signal_records.specs.declared.record.Row.{Row}
-use Rattle.office_tables_shelf.specs.Content.{Content}
-use Rattle.office_tables_shelf.specs.Shelf.{ListsTiming}
+use Rattle.signal_records.specs.{TimingSet.Rows, TimingSet.set_of_rows, Within.IsRowWithin, Within.current_limits, declared.record.Row.Row}
+use Rattle.office_tables_shelf.specs.{Content.Content, Shelf.ListsTiming}
 
 -- the set is made of the committed rows that the tables have of an intersection; each of them is
 -- within today's limits

@@ -1,24 +1,16 @@
 -- When a stored row keeps a command from being answered.
 use Rattle.std.specs.Prelude.{◌≡◌, ◌⊎◌, ℕ, List, [], ◌∷◌, Option, Some, None}
 use Rattle.std.specs.Option.{option_map}
-use Rattle.signal_records.specs.declared.state.Holder.{Holder}
-use Rattle.draft_core.specs.Steps.{reach_of}
-use Rattle.draft_core.specs.declared.step.Step.TheVariants as step
-use Rattle.draft_core.specs.declared.timing.Reach.{Reach}
-use Rattle.draft_core.specs.declared.timing.Reach.TheVariants as reach
-use Rattle.signal_records.specs.declared.state.Stage.TheVariants.{Done}
-use Rattle.office_tables_shelf.specs.Content.{Content}
-use Rattle.office_tables_shelf.specs.Overdue.{HasOverdueDamage}
-use Rattle.office_tables_shelf.specs.Shelf.{IsThere, ReadsIntersection}
-use Rattle.office_tables_shelf.specs.declared.rows.IntersectionRow.{IntersectionRow}
-use Rattle.office_tables_shelf.specs.Damage.{HasDamagedIntersection, HasDamagedTiming, HasDamagedDraft}
+use Rattle.signal_records.specs.declared.state.{Holder.Holder, Stage.TheVariants.Done}
+use Rattle.draft_core.specs.{Steps.reach_of, declared.timing.Reach.Reach}
+use Rattle.office_tables_shelf.specs.{Content.Content, Overdue.HasOverdueDamage, Shelf.IsThere, Shelf.ReadsIntersection, declared.rows.IntersectionRow.IntersectionRow, Damage.HasDamagedIntersection, Damage.HasDamagedTiming, Damage.HasDamagedDraft, Places.DamagedAt}
 use Rattle.office_tables_shelf.specs.CabinetReads.{HasDamagedInspection, HasDamagedOrder, HasDamagedPart, HasDamagedUsed}
-use Rattle.office_tables_shelf.specs.Places as place
-use Rattle.office_tables_shelf.specs.Places.{DamagedAt}
 use Rattle.cabinet_core.specs.declared.command.RecordCommand.{RecordCommand}
 use Rattle.cabinet_core.specs.declared.command.RecordCommand.TheVariants.{Inspect, OpenOrder, UsePart, CloseOrder, Receive}
-use Rattle.office_machine.specs.Step.{cabinet_of}
-use Rattle.office_machine.specs.declared.command.Command.{Command}
+use Rattle.office_machine.specs.{Step.cabinet_of, declared.command.Command.Command}
+use Rattle.draft_core.specs.declared.step.Step.TheVariants as step
+use Rattle.draft_core.specs.declared.timing.Reach.TheVariants as reach
+use Rattle.office_tables_shelf.specs.Places as place
 use Rattle.office_machine.specs.declared.command.Command.TheVariants as command
 
 -- the row of an intersection is no record; or it is there, and what is read after it meets damage

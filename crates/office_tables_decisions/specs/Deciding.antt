@@ -1,43 +1,28 @@
 -- What every decision on a command promises.
-use Rattle.std.specs.Prelude.{◌≡◌, ◌≢◌, ◌≤◌, ◌⊎◌, [], Result, Ok, Err}
-use Rattle.office_tables_shelf.specs.Change.{AddNew, changed_by}
-use Rattle.office_tables_shelf.specs.Content.{Content}
-use Rattle.office_tables_shelf.specs.Counts.{writes_in}
-use Rattle.office_tables_shelf.specs.declared.rows.Table.{Table}
-use Rattle.office_tables_shelf.specs.declared.shelf.ShelfFault.{ShelfFault}
+use Rattle.std.specs.Prelude.{◌≡◌, ◌≤◌, ◌⊎◌, [], Result, Ok, Err}
+use Rattle.office_tables_shelf.specs.{Change.AddNew, Change.changed_by, Content.Content, Counts.writes_in, declared.rows.Table.Table, declared.shelf.ShelfFault.ShelfFault}
+use Rattle.office_machine.specs.declared.{command.Command.Command, command.Command.TheVariants.Import, refusal.Refusal.TheVariants.Damaged, refusal.Refusal.TheVariants.Unavailable, reply.Reply.Reply, reply.Reply.TheVariants.Imported, reply.Reply.TheVariants.Refused}
+use Rattle.office_tables_decisions.specs.{declared.decided.Decided.Decided, Answers.AnswersAny, Changes.IsRefused, Changes.IsQueryCommand, Changes.most_writes, Damage.MeetsDamage, Named.IsNamedFor, Named.RefusesBy, Named.numbers_of}
 use Rattle.office_tables_shelf.specs.declared.shelf.ShelfFault.TheVariants as fault
-use Rattle.office_machine.specs.declared.command.Command.{Command}
-use Rattle.office_machine.specs.declared.command.Command.TheVariants.{Import}
-use Rattle.office_tables_decisions.specs.declared.decided.Decided.{Decided}
-use Rattle.office_machine.specs.declared.refusal.Refusal.TheVariants.{Damaged, Unavailable}
-use Rattle.office_machine.specs.declared.reply.Reply.{Reply}
-use Rattle.office_machine.specs.declared.reply.Reply.TheVariants.{Imported, Refused}
-use Rattle.office_tables_decisions.specs.Answers.{AnswersAny}
-use Rattle.office_tables_decisions.specs.Changes.{IsRefused, IsQueryCommand, most_writes}
-use Rattle.office_tables_decisions.specs.Damage.{MeetsDamage}
-use Rattle.office_tables_decisions.specs.Named.{IsNamedFor, RefusesBy, numbers_of}
 
 -- The reply and what the rows make of the tables are one step; the rows are at most those of the kind of command, and none where it is refused or only asks;
--- where one is added, none stands under its key;
--- a refusal is one of the command's table; and a row that is no record is reported as a fault, never as a reply.
-pub record IsDecision (is_honest : Type 0) (tables : Content) (command : Command) (decided : Decided) : Type 0 where
+-- where one is added, none stands under its key; a refusal is one of the named ones; and Damaged is told only where this is so.
+pub record Decision (is_honest : Type 0) (tables : Content) (command : Command) (IsNamed : Reply → Type 0) (Damage : Type 0) (decided : Decided) : Type 0 where
   pub step : is_honest → AnswersAny tables command decided.reply (changed_by tables decided.changes.items)
   pub writes : is_honest → (table : Table) → writes_in table decided.changes.items ≤ most_writes tables command table
   pub news : is_honest → AddNew tables decided.changes.items
   pub refused : IsRefused decided.reply → decided.changes.items ≡ []
   pub query : IsQueryCommand command → decided.changes.items ≡ []
-  pub named : RefusesBy (numbers_of command) decided.reply
-  pub undamaged : decided.reply ≢ Refused Damaged
+  pub named : IsNamed decided.reply
+  pub damaged : decided.reply ≡ Refused Damaged → Damage
 
--- What is answered, where a fault is reported as its refusal: Unavailable, or Damaged where a row that the command reads is no record.
-pub record IsAnswered (is_honest : Type 0) (tables : Content) (command : Command) (decided : Decided) : Type 0 where
-  pub step : is_honest → AnswersAny tables command decided.reply (changed_by tables decided.changes.items)
-  pub writes : is_honest → (table : Table) → writes_in table decided.changes.items ≤ most_writes tables command table
-  pub news : is_honest → AddNew tables decided.changes.items
-  pub refused : IsRefused decided.reply → decided.changes.items ≡ []
-  pub query : IsQueryCommand command → decided.changes.items ≡ []
-  pub named : IsNamedFor command decided.reply
-  pub damaged : decided.reply ≡ Refused Damaged → is_honest → MeetsDamage tables command
+-- what is decided: a refusal is one of the command's table, and a row that is no record is reported as a fault, never as a reply
+abbrev pub IsDecision : Type 0 → Content → Command → Decided → Type 0
+IsDecision is_honest tables command = Decision is_honest tables command (RefusesBy (numbers_of command)) ⊥
+
+-- what is answered, where a fault is reported as its refusal: Unavailable, or Damaged where a row that the command reads is no record
+abbrev pub IsAnswered : Type 0 → Content → Command → Decided → Type 0
+IsAnswered is_honest tables command = Decision is_honest tables command (IsNamedFor command) (is_honest → MeetsDamage tables command)
 
 -- The command is decided, or a fault is reported: Damaged only where a row that it reads is no record.
 abbrev pub Decides : Type 0 → Content → Command → Result Decided ShelfFault → Type 0

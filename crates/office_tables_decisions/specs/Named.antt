@@ -1,14 +1,8 @@
 -- Which refusals are named for a command, by their numbers in the table.
 use Rattle.std.specs.Prelude.{◌≡◌, ◌⊎◌, ℕ, List, [], ◌∷◌, map, Option, Some, None}
 use Rattle.office_tables_decisions.specs.RecordBounds.{IsOneOf, refusals_of}
-use Rattle.office_machine.specs.Refusal.{line_of}
-use Rattle.office_machine.specs.Step.{cabinet_of, refusal_of_record}
-use Rattle.office_machine.specs.declared.command.Command.{Command}
+use Rattle.office_machine.specs.{Refusal.line_of, Step.cabinet_of, Step.refusal_of_record, declared.command.Command.Command, declared.refusal.Refusal.Refusal, declared.refusal.Refusal.TheVariants.Unavailable, declared.refusal.Refusal.TheVariants.Damaged, declared.reply.Reply.Reply, declared.reply.Reply.TheVariants.Refused}
 use Rattle.office_machine.specs.declared.command.Command.TheVariants as command
-use Rattle.office_machine.specs.declared.refusal.Refusal.{Refusal}
-use Rattle.office_machine.specs.declared.refusal.Refusal.TheVariants.{Unavailable, Damaged}
-use Rattle.office_machine.specs.declared.reply.Reply.{Reply}
-use Rattle.office_machine.specs.declared.reply.Reply.TheVariants.{Refused}
 
 -- the number of a refusal in the table
 abbrev pub number_of : Refusal → ℕ
@@ -29,15 +23,12 @@ numbers_of (command.Check id clerk) = 10 ∷ 15 ∷ 14 ∷ []
 numbers_of (command.Commit id clerk) = 10 ∷ 16 ∷ 14 ∷ 17 ∷ 18 ∷ []
 numbers_of (command.Reopen id clerk) = 10 ∷ 16 ∷ 14 ∷ []
 numbers_of (command.Abandon id clerk) = 10 ∷ 13 ∷ []
-numbers_of (command.State id) = 10 ∷ []
-numbers_of (command.Timing id) = 10 ∷ []
 numbers_of (command.Draft id) = 10 ∷ 13 ∷ []
 numbers_of (command.Record c) = numbers_about (cabinet_of c) (map (λ why. number_of (refusal_of_record why)) (refusals_of c))
 numbers_of (command.Import records) = 30 ∷ []
-numbers_of (command.Cabinet id) = 10 ∷ []
-numbers_of (command.OpenOrders id) = 10 ∷ []
 numbers_of command.Stock = []
 numbers_of (command.Overdue day) = []
+numbers_of _ = 10 ∷ []
 
 -- a reply that refuses gives one of these numbers
 abbrev pub RefusesBy : List ℕ → Reply → Type 0

@@ -1,10 +1,6 @@
 -- What a call that reads a shelf promises.
 use Rattle.std.specs.Prelude.{◌≡◌, Result, Ok, Err}
-use Rattle.office_tables_shelf.specs.Keeps.{KeepsShelf}
-use Rattle.office_tables_shelf.specs.Shelf.{IsTold}
-use Rattle.office_tables_shelf.specs.declared.shelf.Shelf.{Ghosts}
-use Rattle.office_tables_shelf.specs.declared.shelf.ShelfFault.{ShelfFault}
-use Rattle.office_tables_shelf.specs.declared.shelf.ShelfFault.TheVariants.{Damaged}
+use Rattle.office_tables_shelf.specs.{Keeps.KeepsShelf, Shelf.IsTold, declared.shelf.Shelf.Ghosts, declared.shelf.ShelfFault.ShelfFault, declared.shelf.ShelfFault.TheVariants.Damaged}
 
 -- A call reads a shelf and writes nothing: the tables, the counts of writes and what a crash may leave stay, and nothing makes a disk clean again.
 -- Where it answers, or reports a damaged row, an open database stays open; where it is sure to read, the database was open.

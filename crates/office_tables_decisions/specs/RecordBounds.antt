@@ -1,9 +1,8 @@
 -- What a command of the register may write, and which refusals the table has for it.
 use Rattle.std.specs.Prelude.{◌≡◌, ◌⊎◌, ℕ, List, [], ◌∷◌}
 use Rattle.cabinet_core.specs.Cabinet.{Line, added, same, refused}
-use Rattle.cabinet_core.specs.declared.command.RecordCommand.{RecordCommand}
+use Rattle.cabinet_core.specs.declared.{command.RecordCommand.RecordCommand, refusal.CabinetRefusal.CabinetRefusal}
 use Rattle.cabinet_core.specs.declared.command.RecordCommand.TheVariants.{Inspect, OpenOrder, UsePart, CloseOrder, Receive}
-use Rattle.cabinet_core.specs.declared.refusal.CabinetRefusal.{CabinetRefusal}
 use Rattle.cabinet_core.specs.declared.refusal.CabinetRefusal.TheVariants.{InspectionDiffers, OrderDiffers, UnknownOrder, OrderClosed, DayBeforeOpening, NoStock, StockFull, DeliveryDiffers, LineDiffers, CloseDiffers}
 use Rattle.office_tables_shelf.specs.declared.rows.Table.{Table}
 use Rattle.office_tables_shelf.specs.declared.rows.Table.TheVariants as table

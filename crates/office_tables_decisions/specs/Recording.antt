@@ -1,14 +1,9 @@
 -- What a decision on the register rests on: that the intersection is there.
-use Rattle.std.specs.Prelude.{◌≡◌, ℕ, Bool, true, Option, Some, None, is_some}
-use Rattle.std.specs.BTreeSet.{BTreeSet}
-use Rattle.std.specs.FinMap.{get}
-use Rattle.std.specs.List.{All, Contains}
-use Rattle.office_tables_shelf.specs.Content.{Content}
-use Rattle.office_tables_shelf.specs.Damage.{HasDamagedIntersection}
-use Rattle.office_tables_shelf.specs.Rows.{intersection_key}
-use Rattle.office_machine.specs.Office.{Office}
+use Rattle.std.specs.Prelude.{◌≡◌, ℕ, Bool, true, Option, Some, None, IsSomeAnd, is_some}
+use Rattle.std.specs.{BTreeSet.BTreeSet, FinMap.get, List.All, List.Contains}
+use Rattle.office_tables_shelf.specs.{Content.Content, Damage.HasDamagedIntersection, Rows.intersection_key}
+use Rattle.office_machine.specs.{Office.Office, Step.is_known}
 use Rattle.office_tables_decisions.specs.StandFor.{StandForSound}
-use Rattle.office_machine.specs.Step.{is_known}
 
 -- this tells whether the intersection is there, or none is asked for, in whichever sound office the tables
 -- stand for
@@ -17,8 +12,7 @@ IsKnownIn tables about known = (office : Office) → StandForSound tables office
 
 -- an intersection is asked for, and its row is no record
 abbrev pub HasDamagedAbout : Content → Option ℕ → Type 0
-HasDamagedAbout tables None = ⊥
-HasDamagedAbout tables (Some id) = HasDamagedIntersection tables id
+HasDamagedAbout tables about = IsSomeAnd about (HasDamagedIntersection tables)
 
 -- this tells whether a row stands under the intersection's number; it is true where none is asked for
 abbrev pub TellsAbout : Content → Option ℕ → Bool → Type 0
@@ -37,5 +31,4 @@ AreFound tables found = All (λ id. TellsIntersection tables (Some id) true) fou
 
 -- an intersection is asked for, and it is one of these
 abbrev pub IsAmong : BTreeSet ℕ → Option ℕ → Type 0
-IsAmong found None = ⊥
-IsAmong found (Some id) = Contains found.keys id
+IsAmong found about = IsSomeAnd about (Contains found.keys)

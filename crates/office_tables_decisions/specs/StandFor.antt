@@ -1,18 +1,11 @@
 -- Which office the tables stand for.
 use Rattle.std.specs.Prelude.{◌≡◌, ℕ, List, Option, Some, None}
-use Rattle.std.specs.Option.{option_map}
-use Rattle.std.specs.FinMap.{entries, get}
-use Rattle.signal_records.specs.Row.{key_of}
-use Rattle.signal_records.specs.Within.{IsRowWithin, IsKeyWithin, current_limits}
-use Rattle.signal_records.specs.declared.key.Key.{Key}
-use Rattle.signal_records.specs.declared.limits.Limits.{Limits}
+use Rattle.std.specs.{Option.option_map, FinMap.entries, FinMap.get}
+use Rattle.signal_records.specs.{Row.key_of, Within.IsRowWithin, Within.IsKeyWithin, Within.current_limits, declared.key.Key.Key, declared.limits.Limits.Limits}
 use Rattle.draft_core.specs.Transaction.{holder_of}
 use Rattle.draft_core.specs.DraftRows.{Said, silent, leaves, removes, RowStands}
-use Rattle.office_tables_shelf.specs.Cells.{Cell, TableRows, tree_rows}
-use Rattle.office_tables_shelf.specs.Content.{Content}
+use Rattle.office_tables_shelf.specs.{Cells.Cell, Cells.TableRows, Cells.tree_rows, Content.Content, declared.rows.IntersectionRow.IntersectionRow, RegisterStands.RegisterStands}
 use Rattle.office_tables_shelf.specs.Rows.{intersection_key, intersection_columns, timing_key, timing_columns_in, left_columns_in}
-use Rattle.office_tables_shelf.specs.declared.rows.IntersectionRow.{IntersectionRow}
-use Rattle.office_tables_shelf.specs.RegisterStands.{RegisterStands}
 use Rattle.office_machine.specs.Office.{Office, Intersection, Version, IsSoundIn, side_at, today}
 
 -- what the row of an intersection holds: its name, its interval, its revision, and the owner and the stage of its draft, if it has one
@@ -22,10 +15,6 @@ row_of i = record { name = i.name; interval = i.interval; revision = i.timing.re
 -- the cells of an intersection's row beside its key
 abbrev pub columns_of : Intersection → List Cell
 columns_of i = intersection_columns (row_of i)
-
--- the rows of the intersections, by their numbers
-abbrev pub standing_intersection_rows : Office → TableRows
-standing_intersection_rows office = tree_rows intersection_key columns_of (entries office.intersections)
 
 -- the cells are the key of a timing row or a draft row of some intersection
 abbrev pub IsTimingKey : List Cell → Type 0
@@ -68,7 +57,7 @@ DraftRowStands = DraftRowStandsIn today
 
 -- the tables hold the rows of the office as a version writes them, and no others
 pub record StandForIn (v : Version) (tables : Content) (office : Office) : Type 0 where
-  pub intersection : tables.intersection ≡ standing_intersection_rows office
+  pub intersection : tables.intersection ≡ tree_rows intersection_key columns_of (entries office.intersections)
   pub timing : (id : ℕ) (key : Key) → get tables.timing (timing_key id key) ≡ option_map (timing_columns_in v.limits) (get (side_at office id).committed key)
   pub timing_keys : HasTimingKeys tables.timing
   pub draft : (id : ℕ) (key : Key) → DraftRowStandsIn v tables office id key

@@ -1,8 +1,7 @@
 //! The committed set of an intersection, as it is read.
 ghost use Rattle.std.specs.Prelude.{⊤};
 ghost use Rattle.office_tables_shelf.specs.Damage.{HasDamagedTiming};
-ghost use Rattle.office_tables_decisions.specs.Committed.{IsCommittedSet};
-ghost use Rattle.office_tables_decisions.specs.Reads.{OnlyReads, Reports};
+ghost use Rattle.office_tables_decisions.specs.{Committed.IsCommittedSet, Reads.OnlyReads, Reads.Reports};
 
 use office_tables_shelf::shelf::{Shelf, ShelfFault};
 use signal_records::{InterId, TimingSet};

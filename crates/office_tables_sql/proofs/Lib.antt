@@ -1,2 +1,2 @@
-pub mod Taken
+pub mod Shown
 pub mod Walks

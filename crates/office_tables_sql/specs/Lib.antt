@@ -1,3 +1,3 @@
-pub mod Gathers
+pub mod Kept
 pub mod Version
 pub mod Promises

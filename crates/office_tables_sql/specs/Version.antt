@@ -1,14 +1,10 @@
 -- The version that an office's tables store, and what it is today and was first.
 use Rattle.std.specs.Prelude.{◌≡◌, ℕ, List, [], ◌∷◌, pos, Option, Some}
 use Rattle.std.specs.FinMap.{get}
-use Rattle.sqlite.specs.Effect.{IsDatabase}
-use Rattle.sqlite.specs.Order.{Row}
-use Rattle.sqlite.specs.Tree.{Trees}
-use Rattle.office_tables_shelf.specs.Cells.{Cell, number}
-use Rattle.office_tables_shelf.specs.Content.{Content}
-use Rattle.office_tables_statements.specs.Schema.{office_schema}
+use Rattle.sqlite.specs.{Effect.IsDatabase, Order.Row, Tree.Trees}
+use Rattle.office_tables_shelf.specs.{Cells.Cell, Cells.number, Content.Content}
+use Rattle.office_tables_statements.specs.{Schema.office_schema, Stored.content_of, Stored.rows_in}
 use Rattle.office_tables_statements.specs.Layout as layout
-use Rattle.office_tables_statements.specs.Stored.{content_of, rows_in}
 
 -- the version that rows of `office_version` store, if they store one: the cells under the number 1
 abbrev pub version_of : List Row → Option (List Cell)
@@ -22,8 +18,7 @@ version_in trees = version_of (trees layout.office_version.tree)
 abbrev pub version_cells : ℕ → List Cell
 version_cells version = number (pos version) ∷ []
 
--- the cells of version 2, which is today's: in its rows of timings and drafts, the pedestrian part of
--- a phase has a lead
+-- the cells of version 2, which is today's: in its rows of plans, the pedestrian part of a phase has a lead
 abbrev pub current_version : List Cell
 current_version = number (pos 2) ∷ []
 
@@ -32,8 +27,7 @@ pub record AreToday (trees : Trees) : Type 0 where
   pub sound : IsDatabase (record { schema = office_schema; trees = trees })
   pub stored : version_in trees ≡ Some current_version
 
--- the cells of version 1: in its rows of timings and drafts, the pedestrian part of a phase has no
--- lead
+-- the cells of version 1: in its rows of plans, the pedestrian part of a phase has no lead
 abbrev pub first_version : List Cell
 first_version = number (pos 1) ∷ []
 

@@ -2,16 +2,9 @@
 //! its own fixed texts.
 #![tactic(auto)]
 
+pub mod cabinet;
 pub mod change;
-pub mod delivery;
-pub mod draft;
 pub mod each_row;
-pub mod insert_text;
-pub mod inspection;
-pub mod intersection;
-pub mod order;
-pub mod part;
+pub mod plan;
 pub mod register;
 pub mod stored_row;
-pub mod timing;
-pub mod used;

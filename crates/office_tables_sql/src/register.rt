@@ -2,9 +2,9 @@
 
 ghost use Rattle.std.specs.Prelude.{IfOk, IfSome};
 ghost use Rattle.sqlite.specs.Held.{state};
-ghost use Rattle.office_tables_shelf.specs.Places.{BlamesAt, GivesAt, IsOfPlace, place_of};
-ghost use Rattle.office_tables_statements.specs.Stored.{content_now};
-ghost use Rattle.office_tables_statements.specs.Calls.{IsHonest, IsOffice, Keeps, TellsOpen};
+ghost use Rattle.office_tables_shelf.specs.Places.{DamagedAt, IsOfPlace, ReadsAt, found_at, place_of};
+ghost use Rattle.office_tables_statements.specs.Calls.{IsOffice};
+ghost use Rattle.office_tables_sql.specs.Promises.{LooksUp};
 
 use crate::stored_row::find;
 use cabinet_core::{Delivery, Hand, Inspection, Order, PartCode, UsedLine};
@@ -21,13 +21,10 @@ pub fn record_at<S: Alter>(
     key: &RegisterKey<'_>,
 ) -> Result<Option<RegisterRecord>, ShelfFault>
     requires { IsOffice (state S.Store conn.old) }
-    ensures row { GivesAt (IsHonest (state S.Store conn.new))
-        (content_now (state S.Store conn.old)) (place_of key.now) result }
+    ensures read { LooksUp S.Store result (λ tables found. ReadsAt tables (place_of key.now)
+        (found_at (place_of key.now) found)) (λ tables. DamagedAt tables (place_of key.now))
+        conn.old conn.new }
     ensures within { IfOk result (λ found. IfSome found (IsOfPlace (place_of key.now))) }
-    ensures damaged { BlamesAt (IsHonest (state S.Store conn.new))
-        (content_now (state S.Store conn.old)) (place_of key.now) result }
-    ensures kept { Keeps (state S.Store conn.old) (state S.Store conn.new) }
-    ensures open { TellsOpen result (state S.Store conn.new) }
 {
     match key {
         RegisterKey::Inspection(id, number) => {

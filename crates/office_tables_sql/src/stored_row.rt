@@ -1,24 +1,19 @@
 //! Rows of the office's tables as records: found, put, added and removed, each by one fixed text.
 
 ghost use Rattle.std.specs.Prelude.{◌≡◌, ◌++◌, ℕ, true, pos, List, length, Option, None, IfOk, IfSome};
-ghost use Rattle.sqlite.specs.Held.{state};
-ghost use Rattle.sqlite.specs.Values.{bound};
-ghost use Rattle.signal_records.specs.declared.key.Key.{Key};
+ghost use Rattle.sqlite.specs.{Held.state, Values.bound};
 ghost use Rattle.office_tables_shelf.specs.Cells.{Cell, number};
-ghost use Rattle.office_tables_shelf.specs.Rows.{timing_key};
-ghost use Rattle.office_tables_shelf.specs.declared.rows.Table.{Table};
 ghost use Rattle.office_tables_statements.specs.Stored.{content_now};
-ghost use Rattle.office_tables_statements.specs.Calls.{IsHonest, IsOffice, Keeps, StaysOpen, TellsOpen};
-ghost use Rattle.office_tables_statements.specs.Tables.{put_in, remove_in, key_values, key_shown, columns_shown, width_of, key_given, IsKeyOf, IsUnder, ReadsRow, HasDamagedUnder, IsNoRow, IsListText, IsFindText, IsUpdateText, IsInsertText, IsRemoveText, takes, values_of};
-ghost use Rattle.office_tables_sql.specs.Gathers.{first_cell};
-ghost use Rattle.office_tables_sql.specs.Promises.{Turns};
+ghost use Rattle.office_tables_statements.specs.Calls.{IsHonest, IsOffice, Keeps, StaysOpen};
+ghost use Rattle.office_tables_statements.specs.Tables.{put_in, remove_in, key_shown, columns_shown, width_of, key_given, IsKeyOf, IsUnder, ReadsRow, HasDamagedUnder, IsNoRow, IsListText, IsFindText, IsUpdateText, IsInsertText, IsRemoveText, takes, values_of};
+ghost use Rattle.office_tables_sql.specs.{Kept.Kept, Kept.keep, Kept.first_cell, Promises.LooksUp, Promises.Turns};
 
 use office_tables_shelf::shelf::ShelfFault;
 use office_tables_statements::statement::{SqlFault, select_one, write};
 use office_tables_statements::value::ranged_at;
-use signal_records::{InterId, Key, NoMemory};
+use signal_records::{InterId, NoMemory};
 use sqlite::types::ValueRef;
-use sqlite::{Alter, Connection, Row, Transaction, params};
+use sqlite::{Alter, Connection, Row, Transaction};
 use std::alloc::Global;
 
 /// The statements of SQL on one table, each one fixed text.
@@ -27,6 +22,8 @@ pub struct Texts {
     /// The query of the rows of a list, in the order of their keys. Its one parameter is the
     /// intersection, or it has none where it lists all rows.
     pub list: &'static str,
+    /// The query of all rows, in the order of their keys.
+    pub walk: &'static str,
     /// The query of the row under a key, whose parameters are the cells of the key.
     pub find: &'static str,
     /// The statement that changes the row under a key, if there is one. Its parameters are the
@@ -35,62 +32,75 @@ pub struct Texts {
     /// The statement that adds a row, by the cells of its key and then the others. The database
     /// refuses it where a row stands under the key.
     pub insert: &'static str,
+    /// The statement that removes the row under a key, if there is one.
+    pub remove: &'static str,
 }
+
+/// The texts of a table: its name, the column by which a list is of one intersection, the filter
+/// of a key, the columns of the key, all columns, their parameters, and what a change sets.
+macro_rules! texts {
+    (
+        $table:literal $(of $of:literal)? at $at:literal by $key:literal,
+        $columns:literal = $values:literal, $set:literal
+    ) => {
+        Texts {
+            list: concat!(
+                "SELECT ", $columns, " FROM ", $table, $(" WHERE ", $of, " = ?1",)?
+                " ORDER BY ", $key
+            ),
+            walk: concat!("SELECT ", $columns, " FROM ", $table, " ORDER BY ", $key),
+            find: concat!("SELECT ", $columns, " FROM ", $table, " WHERE ", $at),
+            update: concat!("UPDATE ", $table, " SET ", $set, " WHERE ", $at),
+            insert: concat!("INSERT INTO ", $table, " (", $columns, ") VALUES (", $values, ")"),
+            remove: concat!("DELETE FROM ", $table, " WHERE ", $at),
+        }
+    };
+}
+
+pub(crate) use texts;
+
+/// The parameters of a statement, or a growth that was refused.
+pub type Bound<'a> = Result<Vec<ValueRef<'a>>, NoMemory>;
 
 /// A record that one table of the office keeps as a row.
 pub trait StoredRow: Sized + Drop {
     /// What records are kept of, so that a list shows all of them: an intersection, or the whole
     /// office.
     type Of: Copy;
-    /// The number of the intersection that records are kept of, none for the whole office.
-    ghost whose: { Self.Of → Option ℕ };
-    /// The table that keeps the record.
-    ghost table: { Table };
-    /// The cells of the record's key, which begin with the intersection where it is kept of one.
-    ghost key: { Self.Of → Self → List Cell };
-    /// The cells of the record's other columns.
-    ghost columns: { Self → List Cell };
-    /// The record is within its limits.
-    ghost is_within: { Self → Type 0 };
+    /// How the table keeps them.
+    ghost kept: { Kept Self.Of Self };
 
     /// The statements of SQL on the table.
     fn texts() -> Texts
-        ensures list { (of : Self.Of) → IsListText table (whose of) result.list.now }
-        ensures find { IsFindText table result.find.now }
-        ensures update { IsUpdateText table result.update.now }
-        ensures insert { IsInsertText table result.insert.now };
+        ensures list { (of : Self.Of) → IsListText kept.table (kept.whose of) result.list.now }
+        ensures walk { IsListText kept.table None result.walk.now }
+        ensures find { IsFindText kept.table result.find.now }
+        ensures update { IsUpdateText kept.table result.update.now }
+        ensures insert { IsInsertText kept.table result.insert.now }
+        ensures remove { IsRemoveText kept.table result.remove.now };
 
     /// The record for which a row stands that the list or the query of a key shows. `Damaged` means
     /// that it stands for none, `NoMemory` that a growth was refused.
     fn read(alloc: Global, of: Self::Of, row: &Row) -> Result<Self, ShelfFault>
-        ensures key { IfOk result (λ x. key of x ≡ key_shown table row.now) }
-        ensures columns { IfOk result (λ x. columns x ≡ columns_shown table row.now) }
-        ensures within { IfOk result is_within }
-        ensures damaged { result ≡ Err ShelfFault.Damaged → length row.now ≡ width_of table →
-            IsNoRow is_within (key of) columns (key_shown table row.now)
-            (columns_shown table row.now) };
+        ensures key { IfOk result (λ x. kept.key of x ≡ key_shown kept.table row.now) }
+        ensures columns { IfOk result (λ x. kept.columns x ≡ columns_shown kept.table row.now) }
+        ensures within { IfOk result kept.is_within }
+        ensures damaged { result ≡ Err ShelfFault.Damaged →
+            length row.now ≡ width_of kept.table →
+            IsNoRow kept.is_within (kept.key of) kept.columns (key_shown kept.table row.now)
+            (columns_shown kept.table row.now) };
 
     /// The parameters of the statements that put the record: the cells of its key, and then the
-    /// others. `text` is room for a text that is made for them. The error means that a growth was
-    /// refused.
-    fn bind<'a>(
-        &'a self,
-        alloc: Global,
-        of: Self::Of,
-        text: &'a mut String,
-    ) -> Result<Vec<ValueRef<'a>>, NoMemory>
-        ensures bound { IfOk result (λ values.
-            bound values.items ≡ values_of (key of self.now ++ columns self.now)) }
-        ensures taken { takes table (key of self.now) (columns self.now) ≡ true };
+    /// others. `text` is room for a text that is made for them.
+    fn bind<'a>(&'a self, alloc: Global, of: Self::Of, text: &'a mut String) -> Bound<'a>
+        ensures bound { IfOk result (λ values. bound values.items
+            ≡ values_of (kept.key of self.now ++ kept.columns self.now)) }
+        ensures taken { takes kept.table (kept.key of self.now) (kept.columns self.now) ≡ true };
 }
 
 /// A record of one intersection, of which a walk shows those of all intersections.
 pub trait WalkedRow: StoredRow<Of = InterId> {
-    /// The query of the rows of all intersections, in the order of their keys.
-    fn walk_text() -> &'static str
-        ensures { IsListText Self.table None result.now };
-
-    ghost begins: { (id : ℕ) (x : Self) → first_cell (Self.key id x) ≡ number (pos id) };
+    ghost begins: { (id : ℕ) (x : Self) → first_cell (Self.kept.key id x) ≡ number (pos id) };
 }
 
 /// A record with the number of its intersection: the list shows those of all intersections.
@@ -99,20 +109,14 @@ impl<T: WalkedRow> StoredRow for (InterId, T) {
 
     type Of = ();
 
-    ghost whose = { λ _. None };
-
-    ghost table = { T.table };
-
-    ghost key = { λ _ e. T.key e.0 e.1 };
-
-    ghost columns = { λ e. T.columns e.1 };
-
-    ghost is_within = { IsOfOne T.is_within };
+    ghost kept = { keep T.kept.table (λ _. None) (λ _ e. T.kept.key e.0 e.1)
+        (λ e. T.kept.columns e.1) (IsOfOne T.kept.is_within) };
 
     fn texts() -> Texts {
+        let texts = T::texts();
         Texts {
-            list: T::walk_text(),
-            ..T::texts()
+            list: texts.walk,
+            ..texts
         }
     }
 
@@ -122,24 +126,9 @@ impl<T: WalkedRow> StoredRow for (InterId, T) {
         Ok((id, found))
     }
 
-    fn bind<'a>(
-        &'a self,
-        alloc: Global,
-        _of: (),
-        text: &'a mut String,
-    ) -> Result<Vec<ValueRef<'a>>, NoMemory> {
+    fn bind<'a>(&'a self, alloc: Global, _of: (), text: &'a mut String) -> Bound<'a> {
         self.1.bind(alloc, self.0, text)
     }
-}
-
-/// A record under a key of timing (intersection, kind, and two numbers), which may be removed.
-pub trait TimingKeyed: StoredRow {
-    /// The statement that removes the row under a key, if there is one.
-    fn remove_text() -> &'static str
-        ensures { IsRemoveText Self.table result.now };
-
-    ghost keyed: { (id : ℕ) (key : Key) → (IsKeyOf Self.table (key_values id key))
-        × (key_given Self.table (key_values id key) ≡ timing_key id key) };
 }
 
 /// The record under a key, if there is one. `Damaged` means that what is stored there is no record,
@@ -151,16 +140,12 @@ pub fn find<T: StoredRow, S: Alter>(
     key: &[ValueRef<'_>],
 ) -> Result<Option<T>, ShelfFault>
     requires office { IsOffice (state S.Store conn.old) }
-    requires key { IsKeyOf T.table (bound key.now) }
-    ensures row { IfOk result (λ found. IsHonest (state S.Store conn.new) →
-        ReadsRow T.table (T.key of) T.columns (content_now (state S.Store conn.old))
-        (key_given T.table (bound key.now)) found) }
-    ensures within { IfOk result (λ found. IfSome found T.is_within) }
-    ensures damaged { result ≡ Err ShelfFault.Damaged → IsHonest (state S.Store conn.new) →
-        HasDamagedUnder T.table T.is_within (T.key of) T.columns
-        (content_now (state S.Store conn.old)) (key_given T.table (bound key.now)) }
-    ensures kept { Keeps (state S.Store conn.old) (state S.Store conn.new) }
-    ensures open { TellsOpen result (state S.Store conn.new) }
+    requires key { IsKeyOf T.kept.table (bound key.now) }
+    ensures read { LooksUp S.Store result (λ tables. ReadsRow T.kept.table (T.kept.key of)
+        T.kept.columns tables (key_given T.kept.table (bound key.now)))
+        (λ tables. HasDamagedUnder T.kept.table T.kept.is_within (T.kept.key of) T.kept.columns
+        tables (key_given T.kept.table (bound key.now))) conn.old conn.new }
+    ensures within { IfOk result (λ found. IfSome found T.kept.is_within) }
 {
     match under::<T, S>(conn, key)? {
         Some(row) => Ok(Some(T::read(alloc, of, &row)?)),
@@ -174,36 +159,48 @@ fn under<T: StoredRow, S: Alter>(
     key: &[ValueRef<'_>],
 ) -> Result<Option<Row>, SqlFault>
     requires office { IsOffice (state S.Store conn.old) }
-    requires key { IsKeyOf T.table (bound key.now) }
-    ensures found { IsHonest (state S.Store conn.new) →
-        IfOk result (IsUnder T.table (content_now (state S.Store conn.old))
-        (key_given T.table (bound key.now))) }
+    requires key { IsKeyOf T.kept.table (bound key.now) }
+    ensures found { IsHonest (state S.Store conn.new) → IfOk result (IsUnder T.kept.table
+        (content_now (state S.Store conn.old)) (key_given T.kept.table (bound key.now))) }
     ensures kept { Keeps (state S.Store conn.old) (state S.Store conn.new) }
     ensures open { StaysOpen result (state S.Store conn.new) }
 {
     select_one(conn, T::texts().find, key)
 }
 
-/// Puts a record under its key: changes the row that is there, or adds one. `Store` means that the
-/// database refused, `NoMemory` that a growth was refused.
+/// Puts a row by its parameters, the cells of its key and then the others: changes the row that is
+/// under the key, or adds one. `Store` means that the database refused, `NoMemory` that a growth
+/// was refused.
+pub fn put_values<T: StoredRow, S: Alter>(
+    tx: &mut Transaction<'_, S>,
+    values: &[ValueRef<'_>],
+) -> Result<(), SqlFault>
+    ensures { (key columns : List Cell) → takes T.kept.table key columns ≡ true →
+        bound values.now ≡ values_of (key ++ columns) →
+        Turns S.Store result (λ tables. put_in tables T.kept.table key columns) tx.old tx.new }
+{
+    let texts = T::texts();
+    let changed = write(tx, texts.update, values)?;
+    if changed > 0 {
+        return Ok(());
+    }
+    write(tx, texts.insert, values)?;
+    Ok(())
+}
+
+/// Puts a record under its key, by `put_values`.
 pub fn put<T: StoredRow, S: Alter>(
     alloc: Global,
     tx: &mut Transaction<'_, S>,
     of: T::Of,
     row: &T,
 ) -> Result<(), SqlFault>
-    ensures { Turns S.Store result (λ tables. put_in tables T.table
-        (T.key of row.now) (T.columns row.now)) tx.old tx.new }
+    ensures { Turns S.Store result (λ tables. put_in tables T.kept.table
+        (T.kept.key of row.now) (T.kept.columns row.now)) tx.old tx.new }
 {
     let mut text = String::new(alloc);
     let values = row.bind(alloc, of, &mut text)?;
-    let texts = T::texts();
-    let changed = write(tx, texts.update, values.as_slice())?;
-    if changed > 0 {
-        return Ok(());
-    }
-    write(tx, texts.insert, values.as_slice())?;
-    Ok(())
+    put_values::<T, S>(tx, values.as_slice())
 }
 
 /// Adds a record that is new. `Store` means that the database refused, as it does where a row
@@ -214,8 +211,8 @@ pub fn add<T: StoredRow, S: Alter>(
     of: T::Of,
     row: &T,
 ) -> Result<(), SqlFault>
-    ensures { Turns S.Store result (λ tables. put_in tables T.table
-        (T.key of row.now) (T.columns row.now)) tx.old tx.new }
+    ensures { Turns S.Store result (λ tables. put_in tables T.kept.table
+        (T.kept.key of row.now) (T.kept.columns row.now)) tx.old tx.new }
 {
     let mut text = String::new(alloc);
     let values = row.bind(alloc, of, &mut text)?;
@@ -223,19 +220,16 @@ pub fn add<T: StoredRow, S: Alter>(
     Ok(())
 }
 
-/// Removes the row of the intersection under the key, if there is one. `Store` means that the
-/// database refused, `NoMemory` that a growth was refused.
-pub fn remove<T: TimingKeyed, S: Alter>(
+/// Removes the row under the key, if there is one. `Store` means that the database refused,
+/// `NoMemory` that a growth was refused.
+pub fn remove<T: StoredRow, S: Alter>(
     tx: &mut Transaction<'_, S>,
-    id: InterId,
-    key: &Key,
+    key: &[ValueRef<'_>],
 ) -> Result<(), SqlFault>
-    ensures { Turns S.Store result (λ tables. remove_in tables T.table
-        (timing_key id key.now)) tx.old tx.new }
+    requires { IsKeyOf T.kept.table (bound key.now) }
+    ensures { Turns S.Store result (λ tables. remove_in tables T.kept.table
+        (key_given T.kept.table (bound key.now))) tx.old tx.new }
 {
-    let kind = key.kind();
-    let first = key.first();
-    let second = key.second();
-    write(tx, T::remove_text(), params![id.get(), kind, first, second])?;
+    write(tx, T::texts().remove, key)?;
     Ok(())
 }

@@ -3,8 +3,7 @@ use Rattle.std.proofs.Common.{◌≡◌, ◌≢◌, [], length, true≢false, sy
 use Rattle.sqlite.specs.{Effect.IsDatabase, Tree.Trees, Held.state, State.Survives}
 use Rattle.office_tables_shelf.specs.Change.{changed_by}
 use Rattle.office_tables_statements.specs.{Calls.IsHonest, Calls.IsOffice, Stored.content_now}
-use Rattle.office_tables_sql.specs.Promises.{HoldUnder}
-use Rattle.office_tables_sql.specs.Version.{version_of}
+use Rattle.office_tables_sql.specs.{Promises.HoldUnder, Version.version_of}
 use Rattle.office_tables_statements.proofs.CallLemmas.{commit_undone, commit_survives}
 use Rattle.office_tables_sql.proofs.change.apply.Goals as goal
 

@@ -15,5 +15,5 @@ returns-clause-found g c honest =
     let sql = c.texts.result.find.now in
     let key = bound c.args.key.now in
     IfOk-weaker c.select_one.result (λ row. Reads sql key db (option_to_list row)) _
-    (λ row. finds g.T.StoredRow.table db (c.requires.office.schema before) (c.requires.office.sound before) (c.requires.office.ordered before) sql c.texts.ensures.find key c.requires.key row)
+    (λ row. finds g.T.StoredRow.kept.table db (c.requires.office.schema before) (c.requires.office.sound before) (c.requires.office.ordered before) sql c.texts.ensures.find key c.requires.key row)
     (c.select_one.ensures.row honest)
