@@ -174,7 +174,7 @@ as_many_back (x ∷ xs) none =
 pub one_connection : {Machine State Stored : Type 0} (protocol : Protocol State) (runs : RunsBetween Machine State Stored) (first : Machine) (held : Stored) (before : State) (last : Machine) (kept : Stored) (after : State)
     (start end : ConnectionState) (goes_on : Bool) (come : List ℕ) (outcome : Result Part ServeFault) → come ≡ start.held
     → DidPart protocol (runs first held before last kept after) start.left come end.held start.ends end.ends outcome → TellsPart start.ends end.ends outcome
-    → OnlyAsksAfter (λ told. told) start.left come start.ends.source end.ends.source
+    → OnlyAsksAfter start.left come start.ends.source end.ends.source
     → end.ends.source.counts.calls + length come ≤ start.ends.source.counts.calls + longest_request * start.left + length end.held + 1
     → goes_on ≡ has_paused outcome → end.left ≡ start.left - told_requests (as_served outcome)
     → ServesConnection protocol runs first held before last kept after (connection_between goes_on start end)
@@ -183,7 +183,7 @@ one_connection protocol runs first held before last kept after start end goes_on
   did = subst (λ (bytes : List ℕ). DidPart protocol (runs first held before last kept after) start.left bytes end.held start.ends end.ends outcome) same did;
   fault = fault;
   asks = record {
-    asks = subst (λ (bytes : List ℕ). OnlyAsksAfter (λ told. told) start.left bytes start.ends.source end.ends.source) same asks;
+    asks = subst (λ (bytes : List ℕ). OnlyAsksAfter start.left bytes start.ends.source end.ends.source) same asks;
     reads = subst (λ (bytes : List ℕ). end.ends.source.counts.calls + length bytes ≤ start.ends.source.counts.calls + longest_request * start.left + length end.held + 1) same reads;
   };
   goes_on = paused;

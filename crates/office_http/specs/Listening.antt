@@ -254,7 +254,7 @@ served_by storage first held before last kept after =
 -- the source was called only while a request of the connection was awaited, not again after a call
 -- that failed or gave no byte; and each call but one gave a byte of a request that may come
 pub record AsksConnection (limit : ℕ) (held rest : List ℕ) (start end : Told) : Type 0 where
-  pub asks : OnlyAsksAfter (λ told. told) limit held start end
+  pub asks : OnlyAsksAfter limit held start end
   pub reads : end.counts.calls + length held
       ≤ start.counts.calls + longest_request * limit + length rest + 1
 

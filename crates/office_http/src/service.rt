@@ -1,12 +1,12 @@
 //! The office served over a stream of bytes.
 
-ghost use Rattle.std.specs.Prelude.{◌≡◌, ◌+◌, ◌*◌, ◌≤◌, length, IfErr};
+ghost use Rattle.std.specs.Prelude.{◌≡◌, ◌+◌, ◌*◌, ◌≤◌, length, Err};
 ghost use Rattle.office_machine.specs.Office.{Office as OfficeState};
 ghost use Rattle.office_desk.specs.Running.{KeepsTheStreet};
 ghost use Rattle.office_tables_shelf.specs.Content.{Content};
-ghost use Rattle.office_http_framing.specs.Asks.{OnlyAsks, OnlyAsksAfter};
+ghost use Rattle.office_http_framing.specs.Asks.{OnlyAsksAfter};
 ghost use Rattle.office_http_framing.specs.Limits.{longest_request};
-ghost use Rattle.office_http_framing.specs.Serve.{Did, DidPart, TellsFault, TellsPart, Untouched, ends_of};
+ghost use Rattle.office_http_framing.specs.Serve.{CallsEnds, Did, DidPart, TellsPart, ends_of};
 ghost use Rattle.office_http_framing.specs.Stops.{KeepsState, moment_of};
 ghost use Rattle.office_http.specs.Laws.{Serves};
 ghost use Rattle.office_http.specs.Protocol.{office_protocol, office_storage};
@@ -57,18 +57,13 @@ pub fn serve<S: Shelf, R: Source, W: Sink>(
     // the street.
     ensures street { KeepsTheStreet }
 
-    // Only the last call of an end may have failed or moved no byte, as the result says.
-    ensures fault { TellsFault (ends_of (R.told reader.old) (W.told writer.old))
+    // Only the last call of an end may have failed or moved no byte, as the result says; and the
+    // reader is called only while a request is awaited: not again after the last one, a fault, a
+    // failure or a read of no byte.
+    ensures calls { CallsEnds max_requests (ends_of (R.told reader.old) (W.told writer.old))
         (ends_of (R.told reader.new) (W.told writer.new)) result }
     // If the buffer was refused, nothing was touched, whatever the tables stood for.
-    ensures untouched { IfErr result (λ why. why ≡ ServeFault.NoMemory →
-        Untouched (ends_of (R.told reader.old) (W.told writer.old))
-        (ends_of (R.told reader.new) (W.told writer.new)) office.old office.new) }
-    // The reader is called only while a request is awaited: not again after the last one, a fault,
-    // a failure or a read of no byte.
-    ensures asks { OnlyAsks R.told max_requests reader.old reader.new }
-    ensures reads { (R.told reader.new).counts.calls
-        ≤ (R.told reader.old).counts.calls + longest_request * (max_requests + 1) + 1 }
+    ensures untouched { result ≡ Err ServeFault.NoMemory → office.new ≡ office.old }
 {
     let mut tools = StreamTools::new();
     engine::serve(alloc, office, &mut tools, reader, writer, max_requests)
@@ -108,7 +103,8 @@ pub fn serve_buffered<S: Shelf, R: Source, W: Sink>(
     // did if the stream was left.
     ensures fault { TellsPart (ends_of (R.told reader.old) (W.told writer.old))
         (ends_of (R.told reader.new) (W.told writer.new)) result }
-    ensures asks { OnlyAsksAfter R.told max_requests buffer.old reader.old reader.new }
+    ensures asks { OnlyAsksAfter max_requests buffer.old (R.told reader.old)
+        (R.told reader.new) }
     // Each read but one gives at least one byte.
     ensures reads { (R.told reader.new).counts.calls + length buffer.old
         ≤ (R.told reader.old).counts.calls + longest_request * max_requests

@@ -1,12 +1,12 @@
 -- How far a stream has been served, and what each step adds.
-use Rattle.std.proofs.Common.{◌≡◌, ℕ, suc, ◌+◌, ◌<◌, List, [], ◌∷◌, ◌++◌, length, drop, refl, sym, ap, subst, ◌∙◌, arith, append_assoc}
+use Rattle.std.proofs.Common.{◌≡◌, ℕ, suc, ◌+◌, ◌*◌, ◌<◌, ◌≤◌, List, [], ◌∷◌, ◌++◌, length, drop, refl, sym, ap, subst, ◌∙◌, arith, append_assoc}
 use Rattle.std.specs.Prelude.{Bool, Option, Some, None, Result, Ok, Err, IfOk, MatchResult, true, false}
 use Rattle.std.specs.{Result.is_err, List.concat, Io.KnownBytes.Appends, Io.KnownBytes.Consumes, Io.KnownBytes.Keeps}
 use Rattle.std.proofs.KnownBytes.{Consumes-nil, Consumes-trans, Appends-nil, Appends-trans}
 use Rattle.std.proofs.lemmas.List.{append-nil, length-append, take-append-le, take_all}
 use Rattle.office_http_framing.specs.{declared.engine.Part.Part, declared.engine.PartEnd.PartEnd, declared.engine.Served.Served, declared.engine.ServeFault.ServeFault, Ends.AppendsPart, Ends.NoneStops, Ends.Told, Ends.raised_count, Front.PlainRequest, Front.BeginsWithRequest, Front.IsIncomplete, Protocol.Protocol, Stream.left_after, Stream.unfinished, Stream.AreRequests, Stream.BeginsWith}
-use Rattle.office_http_framing.specs.Asks.{Asks, OwesNoAnswer}
-use Rattle.office_http_framing.specs.Serve.{BreaksOff, Deed, Did, DidPart, Ends, EndsBy, EndsPart, EndsPartBy, IsLeft, MayBeLeft, Runs, SinkTook, Tail, TellsEnd, TellsFault, TellsPart, as_served, ends_of, told_requests}
+use Rattle.office_http_framing.specs.{Asks.Asks, Asks.OnlyAsksAfter, Asks.OwesNoAnswer, Limits.longest_request}
+use Rattle.office_http_framing.specs.Serve.{BreaksOff, CallsEnds, Deed, Did, DidPart, Ends, EndsBy, EndsPart, EndsPartBy, IsLeft, MayBeLeft, Runs, SinkTook, Tail, TellsEnd, TellsFault, TellsPart, as_served, ends_of, told_requests}
 use Rattle.office_http_framing.specs.declared.engine.PartEnd.TheVariants as part
 use Rattle.office_http_framing.specs.declared.engine.ServeFault.TheVariants as stop
 use Rattle.office_http_framing.proofs.AskLemmas.{asks-weaker}
@@ -359,3 +359,30 @@ tells_whole (Err stop.NoMemory) start end last tells = absurd tells
 -- the buffer of a part is not refused
 pub has_buffer : (why : ServeFault) (start end : Ends) → TellsPart start end (Err why) → why ≡ stop.NoMemory → ⊥
 has_buffer why start end tells none = subst (λ w. TellsPart start end (Err w)) none tells
+
+-- no call was made
+pub calls_none : (limit : ℕ) (ends : Ends) → CallsEnds limit ends ends (Err stop.NoMemory)
+calls_none limit ends = record {
+  fault = tt;
+  untouched = λ _. refl;
+  asks = (0, [], (refl, refl));
+  reads = omega arith;
+}
+
+-- a part that was served from the first byte of its stream to the end called the ends as for a stream
+pub calls_whole : (limit : ℕ) (result : Result Part ServeFault) (come kept : List ℕ) (start end : Ends) → come ≡ [] → IsLast result → TellsPart start end result
+    → OnlyAsksAfter limit come start.source end.source
+    → end.source.counts.calls + length come ≤ start.source.counts.calls + longest_request * limit + length kept + 1
+    → (length come ≤ longest_request → length kept ≤ longest_request) → CallsEnds limit start end (as_served result)
+calls_whole limit result come kept start end none last tells asks reads bound =
+    let empty = ap length none in
+    record {
+      fault = tells_whole result start end last tells;
+      untouched = λ refused. absurd (was_begun result start end tells refused);
+      asks = subst (λ bytes. OnlyAsksAfter limit bytes start.source end.source) none asks;
+      reads = omega (arith, empty, bound (omega (arith, empty)), reads);
+    }
+  where
+    was_begun : (result : Result Part ServeFault) (start end : Ends) → TellsPart start end result → as_served result ≡ Err stop.NoMemory → ⊥
+    was_begun (Ok it) start end tells refused = cc
+    was_begun (Err why) start end tells refused = has_buffer why start end tells cc

@@ -39,11 +39,7 @@ Asks IsDue first (suc calls) given source =
 
 -- if the bytes `come` had come before: the source was called only while a request was awaited, and
 -- not again after a call that failed or gave no byte
-abbrev pub OnlyAsksAfter : {Source : Type 0} → (Source → Told) → ℕ → List ℕ → Source → Source → Type 0
-OnlyAsksAfter told limit come first source =
+abbrev pub OnlyAsksAfter : ℕ → List ℕ → Told → Told → Type 0
+OnlyAsksAfter limit come first source =
     (calls : ℕ) × (given : List ℕ)
-    × Asks (λ piece. IsAwaited limit (come ++ piece)) (told first) calls given (told source)
-
--- the source was called, from the first byte of a stream on, only while a request was awaited, and not again after a call that failed or gave no byte
-abbrev pub OnlyAsks : {Source : Type 0} → (Source → Told) → ℕ → Source → Source → Type 0
-OnlyAsks told limit first source = OnlyAsksAfter told limit [] first source
+    × Asks (λ piece. IsAwaited limit (come ++ piece)) first calls given source

@@ -1,6 +1,6 @@
 -- What one serving did to the machine, which answers requests, to the source of the requests and to
 -- the sink of the answers: of a whole stream, or of a part of one.
-use Rattle.std.specs.Prelude.{◌≡◌, ℕ, ◌<◌, ◌⊎◌, List, [], ◌∷◌, ◌++◌, length, Bool, true, Option, Result, Ok, Err, ⊤}
+use Rattle.std.specs.Prelude.{◌≡◌, ℕ, ◌<◌, ◌≤◌, ◌+◌, ◌*◌, ◌⊎◌, List, [], ◌∷◌, ◌++◌, length, Bool, true, Option, Result, Ok, Err, ⊤}
 use Rattle.std.specs.List.{concat}
 use Rattle.std.specs.Io.KnownBytes.{Appends, Consumes}
 use Rattle.office_http_framing.specs.declared.front.Fault.{Fault}
@@ -10,9 +10,10 @@ use Rattle.office_http_framing.specs.declared.engine.PartEnd.TheVariants as part
 use Rattle.office_http_framing.specs.declared.engine.Served.{Served}
 use Rattle.office_http_framing.specs.declared.engine.ServeFault.{ServeFault}
 use Rattle.office_http_framing.specs.declared.engine.ServeFault.TheVariants as stop
-use Rattle.office_http_framing.specs.Asks.{Asks, OwesNoAnswer}
+use Rattle.office_http_framing.specs.Asks.{Asks, OnlyAsksAfter, OwesNoAnswer}
 use Rattle.office_http_framing.specs.Ends.{NoneStops, OneFails, OneIsEmpty, Rose, Told}
 use Rattle.office_http_framing.specs.Front.{PlainRequest}
+use Rattle.office_http_framing.specs.Limits.{longest_request}
 use Rattle.office_http_framing.specs.Protocol.{Protocol, AnswersFault}
 use Rattle.office_http_framing.specs.Stream.{BeginsWith, Ending, closed, unfinished, faulty, EndsAt}
 
@@ -158,11 +159,6 @@ DidPart protocol runs limit come kept start end result =
     Deed runs limit come start end (as_served result)
     (λ tail. EndsPartBy protocol result kept tail start end)
 
--- nothing was read, written or changed
-pub record Untouched {Machine : Type 0} (start end : Ends) (old new : Machine) : Type 0 where
-  pub ends_are : end ≡ start
-  pub machine_is : new ≡ old
-
 -- How the calls of the two ends went, by their own counts: at most one failed or moved no byte, and
 -- the outcome says which. Nothing is said if memory was refused before the first call.
 abbrev pub TellsFault : Ends → Ends → Result Served ServeFault → Type 0
@@ -176,6 +172,18 @@ TellsFault start end (Err (stop.Write requests)) =
     NoneStops start.source.counts end.source.counts
     × (OneFails start.sink.counts end.sink.counts ⊎ OneIsEmpty start.sink.counts end.sink.counts)
 TellsFault start end (Err stop.NoMemory) = ⊤
+
+-- HOW THE ENDS WERE CALLED for a stream, whatever the machine stood for. Only the last call of one
+-- may have failed or moved no byte, as the outcome says; none was called if the buffer was refused;
+-- and the source was called only while a request was awaited, each call but one giving a byte of a
+-- request that may come.
+pub record CallsEnds (limit : ℕ) (start end : Ends) (outcome : Result Served ServeFault)
+    : Type 0 where
+  pub fault : TellsFault start end outcome
+  pub untouched : outcome ≡ Err stop.NoMemory → end ≡ start
+  pub asks : OnlyAsksAfter limit [] start.source end.source
+  pub reads : end.source.counts.calls
+      ≤ start.source.counts.calls + longest_request * (limit + 1) + 1
 
 -- How the calls of the two ends went in a part of a stream that was served without a fault: if the
 -- stream was left, none failed or moved no byte.

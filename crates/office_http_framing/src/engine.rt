@@ -1,12 +1,12 @@
 //! The engine: it serves the requests of a stream, one after another.
 
-ghost use Rattle.std.specs.Prelude.{◌≡◌, ◌+◌, ◌-◌, ◌*◌, ◌≤◌, ℕ, List, length, true, false, IfOk, IfSome, IfErr, if◌then◌else◌};
-ghost use Rattle.office_http_framing.specs.Asks.{OnlyAsks, OnlyAsksAfter};
+ghost use Rattle.std.specs.Prelude.{◌≡◌, ◌+◌, ◌-◌, ◌*◌, ◌≤◌, ℕ, List, length, true, false, Err, IfOk, IfSome, if◌then◌else◌};
+ghost use Rattle.office_http_framing.specs.Asks.{OnlyAsksAfter};
 ghost use Rattle.office_http_framing.specs.Ends.{StopsAtOnce, WritesOrBreaksOff};
 ghost use Rattle.office_http_framing.specs.Front.{plain};
 ghost use Rattle.office_http_framing.specs.Limits.{longest_request};
 ghost use Rattle.office_http_framing.specs.Protocol.{AnswersFault};
-ghost use Rattle.office_http_framing.specs.Serve.{Did, DidPart, MayBeLeft, TellsFault, TellsPart, Untouched, ends_of};
+ghost use Rattle.office_http_framing.specs.Serve.{CallsEnds, Did, DidPart, MayBeLeft, TellsPart, ends_of};
 ghost use Rattle.office_http_framing.specs.Stops.{Deals, How, KeepsState, Ran, moment_of};
 
 use crate::buffer::Buffer;
@@ -166,7 +166,8 @@ pub fn serve_buffered<Tools, M: Machine<Tools>, R: Source, W: Sink>(
     ensures fault { TellsPart (ends_of (R.told reader.old) (W.told writer.old))
         (ends_of (R.told reader.new) (W.told writer.new)) result }
     ensures whole { may_leave ≡ false → IfOk result (λ part. part.end ≡ PartEnd.Ended) }
-    ensures asks { OnlyAsksAfter R.told max_requests buffer.old reader.old reader.new }
+    ensures asks { OnlyAsksAfter max_requests buffer.old (R.told reader.old)
+        (R.told reader.new) }
     // Each read but one gives at least one byte.
     ensures reads { (R.told reader.new).counts.calls + length buffer.old
         ≤ (R.told reader.old).counts.calls + longest_request * max_requests
@@ -235,19 +236,11 @@ pub fn serve<Tools, M: Machine<Tools>, R: Source, W: Sink>(
         (moment_of M.storage machine.old held before) machine.new kept after)
         max_requests (ends_of (R.told reader.old) (W.told writer.old))
         (ends_of (R.told reader.new) (W.told writer.new)) result }
-    // Only the last call of an end may have failed or moved no byte, as the result says: Read if
-    // the source failed, Write if the sink failed or took no byte.
-    ensures fault { TellsFault (ends_of (R.told reader.old) (W.told writer.old))
+    // The fault is Read if the source failed, Write if the sink failed or took no byte.
+    ensures calls { CallsEnds max_requests (ends_of (R.told reader.old) (W.told writer.old))
         (ends_of (R.told reader.new) (W.told writer.new)) result }
-    // If the buffer was refused, nothing was touched, whatever the machine stood for.
-    ensures untouched { IfErr result (λ why. why ≡ ServeFault.NoMemory →
-        Untouched (ends_of (R.told reader.old) (W.told writer.old))
-        (ends_of (R.told reader.new) (W.told writer.new)) machine.old machine.new) }
-    // The reader is called only while a request is awaited: not again after the last one, a fault,
-    // a failure or a read of no byte.
-    ensures asks { OnlyAsks R.told max_requests reader.old reader.new }
-    ensures reads { (R.told reader.new).counts.calls
-        ≤ (R.told reader.old).counts.calls + longest_request * (max_requests + 1) + 1 }
+    // If the buffer was refused, the machine was not touched, whatever it stood for.
+    ensures untouched { result ≡ Err ServeFault.NoMemory → machine.new ≡ machine.old }
 {
     let Ok(mut buffer) = Buffer::new(alloc) else {
         return Err(ServeFault::NoMemory);

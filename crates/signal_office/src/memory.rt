@@ -1,11 +1,8 @@
 //! The office over new tables in memory. Nothing has to be assumed about them.
 
-ghost use Rattle.std.specs.Prelude.{◌≡◌, ◌≤◌, ◌+◌, ◌*◌, IfErr};
 ghost use Rattle.office_machine.specs.Office.{Office as OfficeState};
 ghost use Rattle.office_http.specs.Protocol.{office_protocol};
-ghost use Rattle.office_http_framing.specs.Asks.{OnlyAsks};
-ghost use Rattle.office_http_framing.specs.Limits.{longest_request};
-ghost use Rattle.office_http_framing.specs.Serve.{Did, TellsFault, ends_of};
+ghost use Rattle.office_http_framing.specs.Serve.{CallsEnds, Did, ends_of};
 ghost use Rattle.signal_office.specs.Memory.{ServesInMemory, StandsInMemory, new_office};
 
 use office_desk::office::Office;
@@ -37,17 +34,10 @@ pub fn serve_new_office<R: Source, W: Sink>(
         × Did office_protocol (ServesInMemory after) max_requests
         (ends_of (R.told reader.old) (W.told writer.old))
         (ends_of (R.told reader.new) (W.told writer.new)) result }
-    // The fault is Read or Write only if a call of that end failed, or the writer took no byte.
-    ensures fault { TellsFault (ends_of (R.told reader.old) (W.told writer.old))
+    // The fault is Read or Write only if a call of that end failed, or the writer took no byte; the
+    // reader is called only while a request is awaited.
+    ensures calls { CallsEnds max_requests (ends_of (R.told reader.old) (W.told writer.old))
         (ends_of (R.told reader.new) (W.told writer.new)) result }
-    // Where the buffer was refused nothing was read or written.
-    ensures untouched { IfErr result (λ why. why ≡ ServeFault.NoMemory →
-        ends_of (R.told reader.new) (W.told writer.new)
-        ≡ ends_of (R.told reader.old) (W.told writer.old)) }
-    // The reader is called only while a request is awaited, and at most as often as `reads` says.
-    ensures asks { OnlyAsks R.told max_requests reader.old reader.new }
-    ensures reads { (R.told reader.new).counts.calls
-        ≤ (R.told reader.old).counts.calls + longest_request * (max_requests + 1) + 1 }
 {
     let mut office = open_in_memory(alloc);
     serve(alloc, &mut office, reader, writer, max_requests)

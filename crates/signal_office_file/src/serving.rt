@@ -1,6 +1,6 @@
 //! Streams of requests, served by the office over the tables in files.
 
-ghost use Rattle.std.specs.Prelude.{◌≡◌, ◌≤◌, ◌+◌, ◌*◌, IfOk, IfErr};
+ghost use Rattle.std.specs.Prelude.{◌≡◌, IfOk, IfErr};
 ghost use Rattle.sqlite.specs.Files.{file_state, image_of};
 ghost use Rattle.sqlite.specs.Held.{state};
 ghost use Rattle.sqlite.specs.Recovery.{Image};
@@ -11,9 +11,7 @@ ghost use Rattle.office_machine.specs.Office.{Office as OfficeState};
 ghost use Rattle.office_desk.specs.StandFor.{StandForSound};
 ghost use Rattle.office_tables.specs.Content.{Content};
 ghost use Rattle.office_tables.specs.Stored.{content_now};
-ghost use Rattle.office_http_framing.specs.Asks.{OnlyAsks};
-ghost use Rattle.office_http_framing.specs.Limits.{longest_request};
-ghost use Rattle.office_http_framing.specs.Serve.{Did, TellsFault, ends_of};
+ghost use Rattle.office_http_framing.specs.Serve.{CallsEnds, Did, ends_of};
 ghost use Rattle.office_http.specs.Protocol.{office_protocol};
 ghost use Rattle.signal_office_file.specs.Files.{HoldIn};
 ghost use Rattle.signal_office_file.specs.Serving.{AreOpenedIn, RefusedFiles, ServesFiles};
@@ -60,18 +58,14 @@ pub fn serve_file<D: Disk + Drop, R: Source, W: Sink>(
     // Today's version is stored, also in whatever a crash may leave.
     ensures current { IfOk result (λ served. IsCurrent (file_state served.0.conn)) }
     // The outcome is `Read` or `Write` only if a call of that end failed, or the writer took no
-    // byte.
-    ensures fault { IfOk result (λ served. TellsFault
+    // byte. The reader is called only while a request is awaited, and in all at most once for each
+    // byte that `max_requests` requests and one more can have, and once more.
+    ensures calls { IfOk result (λ served. CallsEnds max_requests
         (ends_of (R.told reader.old) (W.told writer.old))
         (ends_of (R.told reader.new) (W.told writer.new)) served.1) }
     ensures refused { IfErr result (λ e. RefusedFiles files e.0 e.1) }
     ensures untouched { IfErr result (λ _.
         (reader.new ≡ reader.old) × (writer.new ≡ writer.old)) }
-    // The reader is called only while a request is awaited, and in all at most once for each byte
-    // that `max_requests` requests and one more can have, and once more.
-    ensures asks { OnlyAsks R.told max_requests reader.old reader.new }
-    ensures reads { (R.told reader.new).counts.calls
-        ≤ (R.told reader.old).counts.calls + longest_request * (max_requests + 1) + 1 }
 {
     match open_file(alloc, files, options) {
         Ok(office) => Ok(serve_over(alloc, office, reader, writer, max_requests)),
@@ -101,11 +95,8 @@ fn serve_over<S: Alter, R: Source, W: Sink>(
         (ends_of (R.told reader.new) (W.told writer.new)) result.1 }
     // Today's version is stored, also in whatever a crash may leave.
     ensures current { IsCurrent (state S.Store result.0.conn) }
-    ensures fault { TellsFault (ends_of (R.told reader.old) (W.told writer.old))
+    ensures calls { CallsEnds max_requests (ends_of (R.told reader.old) (W.told writer.old))
         (ends_of (R.told reader.new) (W.told writer.new)) result.1 }
-    ensures asks { OnlyAsks R.told max_requests reader.old reader.new }
-    ensures reads { (R.told reader.new).counts.calls
-        ≤ (R.told reader.old).counts.calls + longest_request * (max_requests + 1) + 1 }
 {
     let outcome = serve(alloc, &mut office, reader, writer, max_requests);
     office.shelf().known();

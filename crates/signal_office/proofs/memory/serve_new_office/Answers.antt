@@ -1,4 +1,4 @@
-use Rattle.std.proofs.{Common.refl, lemmas.Result.IfErr-weaker}
+use Rattle.std.proofs.Common.{refl}
 use Rattle.office_http_framing.proofs.ServeLemmas.{Did-weaker}
 use Rattle.office_http.specs.Protocol.{office_protocol}
 use Rattle.office_tables_shelf.specs.Counts.{no_writes}
@@ -24,8 +24,3 @@ returns-clause-did g c =
                 (λ left may. tt) new_office _ served.1 served.0 requests answers serves;
           }) served.2,
     )
-
-pub returns-clause-untouched : goal.returns-clause-untouched
-returns-clause-untouched g c =
-    IfErr-weaker c.serve.result _ _ (λ why untouched is. (untouched is).ends_are)
-    c.serve.ensures.untouched

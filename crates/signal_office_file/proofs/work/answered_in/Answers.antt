@@ -17,7 +17,7 @@ returns-in-Ok-close_office g c =
     let closed = c.in-Ok-close_office.ensures in
     let served = c.in-Ok.served in
     record {
-      begun = c.in-Ok.ensures.fault;
+      begun = c.in-Ok.ensures.calls.fault;
       clean = λ clean. c.in-Ok.ensures.clean (closed.copied clean).was_clean;
       made = λ clean.
           let honest : IsHonest (file_state served.0.conn) = ((closed.copied clean).was_clean, (closed.copied clean).was_open) in
@@ -43,7 +43,7 @@ returns-in-Err-close_office g c =
     let back = c.in-Err-close_office.ensures in
     let served = c.in-Ok.served in (
       served.1,
-      c.in-Ok.ensures.fault,
+      c.in-Ok.ensures.calls.fault,
       first_told fault_of_stream served.1 c.in-Err-close_office.fault c.first_fault.result
           (closing_told served.0.conn c.in-Err-close_office.fault c.in-Err-close_office.left back.0) c.first_fault.ensures,
       λ clean.
