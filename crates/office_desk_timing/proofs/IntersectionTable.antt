@@ -1,25 +1,90 @@
--- The table of the intersections has their rows in the order of their numbers, and each is a record.
-use Rattle.std.proofs.Common.{◌≡◌, ℕ, List, map, Option, ap, sym, subst, ◌∙◌, IfSome}
-use Rattle.std.proofs.lemmas.Cmp.{nat_cmp_total}
-use Rattle.std.specs.{Int.IsInRange, FinMap.entries, FinMap.get}
-use Rattle.office_tables_shelf.specs.{Cells.Cell, Cells.TableRows, Content.Content, Damage.HasAnyDamagedIntersection, Shelf.ListsIntersections, Rows.intersection_key, Rows.intersection_columns, declared.rows.IntersectionRow.IntersectionRow}
-use Rattle.office_tables_shelf.proofs.{KeyCells.intersection_order, StoredMaps.stored_entries, StoredMaps.stored_found}
-use Rattle.office_tables_decisions.proofs.RowsTell.{rows_tell}
-use Rattle.office_machine.specs.Office.{Office, Intersection, IsSoundIntersection}
+-- The table of the intersections has their rows in the order of their numbers; each is a record, and is told by its cells.
+use Rattle.std.proofs.Common.{◌≡◌, ℕ, List, map, Option, Some, None, IsSome, IfSome, refl, ap, sym, subst, ◌∙◌, arith, option_map}
+use Rattle.std.specs.{Cmp.nat_cmp_total, Int.IsInRange, FinMap.entries, FinMap.get}
+use Rattle.signal_values.specs.Words.{AreWords}
+use Rattle.signal_records.specs.declared.{state.Holder.Holder, state.Stage.Stage, state.Stage.TheVariants.Transaction, state.Stage.TheVariants.Verify, state.Stage.TheVariants.Done}
+use Rattle.draft_core.specs.Transaction.{Draft, holder_of}
+use Rattle.office_tables_shelf.specs.Rows.{IsIntersectionRow, intersection_key, intersection_columns, stage_number, state_number, owner_cell}
+use Rattle.office_tables_shelf.specs.{Cells.Cell, Cells.TableRows, Content.Content, Damage.HasAnyDamagedIntersection, Shelf.IsThere, Shelf.ListsIntersections, Shelf.ReadsIntersection, declared.rows.IntersectionRow.IntersectionRow}
+use Rattle.office_tables_shelf.proofs.{KeyCells.intersection_order, StoredMaps.get_stored, StoredMaps.stored_entries, StoredMaps.stored_found}
+use Rattle.office_machine.specs.Office.{Office, Intersection, IsSoundDraft, IsSoundIntersection}
 use Rattle.office_tables_decisions.specs.StandFor.{StandFor, StandForSound, columns_of, row_of}
-use Rattle.office_desk_timing.proofs.{Rows.row_from_cells, Stands.sound_row}
+use Rattle.office_tables_decisions.proofs.RowsTell.{rows_tell}
+
+-- ---- a row is told by its cells
+
+stage_from_number : (a b : Stage) → stage_number a ≡ stage_number b → a ≡ b
+stage_from_number Transaction Transaction e = refl
+stage_from_number Verify Verify e = refl
+stage_from_number Done Done e = refl
+stage_from_number _ _ e = absurd (omega arith)
+
+holder_from_cells : (a b : Option Holder) → state_number a ≡ state_number b → owner_cell a ≡ owner_cell b → a ≡ b
+holder_from_cells None None e f = refl
+holder_from_cells (Some h) (Some k) e f =
+    let same_stage : h.stage ≡ k.stage = stage_from_number h.stage k.stage e in
+    let same_owner : h.owner ≡ k.owner = cc in
+    λ i. Some (record { stage = same_stage i; owner = same_owner i })
+holder_from_cells _ _ e f = cc
+
+row_from_cells : (a b : IntersectionRow) → intersection_columns a ≡ intersection_columns b → a ≡ b
+row_from_cells a b e =
+    let same_name : a.name ≡ b.name = cc in
+    let same_interval : a.interval ≡ b.interval = cc in
+    let same_revision : a.revision ≡ b.revision = cc in
+    let same_state : state_number a.holder ≡ state_number b.holder = cc in
+    let same_owner : owner_cell a.holder ≡ owner_cell b.holder = cc in
+    let same_holder = holder_from_cells a.holder b.holder same_state same_owner in
+    λ i. record { name = same_name i; interval = same_interval i; revision = same_revision i; holder = same_holder i }
+
+-- ---- the row of one intersection
+
+same_read : (row : Option IntersectionRow) (i : Option Intersection) → option_map intersection_columns row ≡ option_map columns_of i → row ≡ option_map row_of i
+same_read None None e = refl
+same_read (Some row) (Some i) e =
+    let same : intersection_columns row ≡ intersection_columns (row_of i) = cc in
+    ap (λ (r : IntersectionRow). Some r) (row_from_cells row (row_of i) same)
+same_read _ _ e = absurd cc
+
+-- the row that was read is that of the office
+pub row_read : (tables : Content) (office : Office) (id : ℕ) (row : Option IntersectionRow) → StandFor tables office → ReadsIntersection tables id row → row ≡ option_map row_of (get office.intersections id)
+row_read tables office id row stand reads = same_read row (get office.intersections id) (sym reads
+    ∙ ap (λ (rows : TableRows). get rows (intersection_key id)) stand.intersection
+    ∙ get_stored nat_cmp_total intersection_key columns_of intersection_order office.intersections id)
+
+module _ (tables : Content) (office : Office) (id : ℕ) (stands : StandForSound tables office) where
+  pub there : (row : IntersectionRow) → ReadsIntersection tables id (Some row) → (i : Intersection) × (get office.intersections id ≡ Some i) × (row ≡ row_of i)
+  there row reads =
+      elim (get office.intersections id) as (λ o. Some row ≡ option_map row_of o → (i : Intersection) × (o ≡ Some i) × (row ≡ row_of i)) [
+        | None ↦ λ e. absurd cc
+        | Some i ↦ λ e. (i, refl, let same : row ≡ row_of i = cc in same)
+      ] (row_read tables office id (Some row) stands.stand reads)
+
+  pub not_there : ReadsIntersection tables id None → get office.intersections id ≡ None
+  not_there reads =
+      elim (get office.intersections id) as (λ o. None ≡ option_map row_of o → o ≡ None) [
+        | None ↦ λ e. refl
+        | Some i ↦ λ e. absurd cc
+      ] (row_read tables office id None stands.stand reads)
+
+  pub sound_there : (i : Intersection) → get office.intersections id ≡ Some i → IsInRange 1 9999 id × IsSoundIntersection i
+  sound_there i is = (
+    subst (λ o. IfSome o (λ _. IsInRange 1 9999 id)) is (stands.sound.numbers id),
+    subst (λ o. IfSome o IsSoundIntersection) is (stands.sound.intersections id),
+  )
+
+-- where a row was read, one stands
+pub row_there : (tables : Content) (id : ℕ) (row : IntersectionRow) → ReadsIntersection tables id (Some row) → IsThere tables id
+row_there tables id row reads = subst (λ (o : Option (List Cell)). IsSome o) (sym reads) refl
+
+-- ---- all rows
 
 abbrev pub Entry : Type 0
 Entry = ℕ × Intersection
 
 -- the cells of an intersection's row
-abbrev pub cells : Entry → List Cell × List Cell
+abbrev cells : Entry → List Cell × List Cell
 cells e = (intersection_key e.0, columns_of e.1)
-
-pub stored : (tables : Content) (office : Office) → StandFor tables office → entries tables.intersection ≡ map cells (entries office.intersections)
-stored tables office stand =
-    ap (λ (rows : TableRows). entries rows) stand.intersection
-    ∙ stored_entries nat_cmp_total intersection_key columns_of intersection_order office.intersections
 
 -- the row of an intersection, beside its number
 abbrev pub of_entry : Entry → ℕ × IntersectionRow
@@ -38,11 +103,28 @@ one_read a e same =
 -- the rows that are read are those of the intersections
 pub rows_read : (tables : Content) (office : Office) → StandFor tables office → (rows : List (ℕ × IntersectionRow)) → ListsIntersections tables rows → rows ≡ map of_entry (entries office.intersections)
 rows_read tables office stand rows lists =
-    rows_tell read_cells cells of_entry one_read rows (entries office.intersections) (lists ∙ stored tables office stand)
+    rows_tell read_cells cells of_entry one_read rows (entries office.intersections) (lists
+    ∙ ap (λ (rows : TableRows). entries rows) stand.intersection
+    ∙ stored_entries nat_cmp_total intersection_key columns_of intersection_order office.intersections)
+
+-- ---- each is a record
+
+owner_of : (draft : Option Draft) → IfSome draft IsSoundDraft → IfSome (option_map holder_of draft) (λ holder. AreWords 40 holder.owner)
+owner_of None sound = tt
+owner_of (Some draft) sound = sound.owner
 
 pub no_damaged_intersection : (tables : Content) → HasAnyDamagedIntersection tables → (office : Office) → StandForSound tables office → ⊥
 no_damaged_intersection tables damaged office stands =
-    let found = stored_found nat_cmp_total intersection_key columns_of intersection_order office.intersections damaged.key damaged.columns (sym (ap (λ (rows : TableRows). get rows damaged.key) stands.stand.intersection) ∙ damaged.stored) in
-    let number = subst (λ (o : Option Intersection). IfSome o (λ _. IsInRange 1 9999 found.0)) found.4 (stands.sound.numbers found.0) in
-    let sound = subst (λ (o : Option Intersection). IfSome o IsSoundIntersection) found.4 (stands.sound.intersections found.0) in
-    damaged.no_row (found.0, row_of found.1) (number, sound_row found.1 sound) found.2 found.3
+    let found = stored_found nat_cmp_total intersection_key columns_of intersection_order office.intersections damaged.key damaged.columns
+    (sym (ap (λ (rows : TableRows). get rows damaged.key) stands.stand.intersection) ∙ damaged.stored) in
+    let sound = sound_there tables office found.0 stands found.1 found.4 in
+    damaged.no_row (found.0, row_of found.1) (
+      sound.0,
+      record {
+        name = sound.1.name;
+        interval_low = sound.1.interval_low;
+        interval_high = sound.1.interval_high;
+        revision = sound.1.revision;
+        owner = owner_of found.1.timing.draft sound.1.draft;
+      },
+    ) found.2 found.3

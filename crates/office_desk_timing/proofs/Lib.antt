@@ -1,9 +1,8 @@
-pub mod Rows
 pub mod EmptySet
-pub mod KeptRegister
+pub mod IntersectionTable
 pub mod Stands
-pub mod NewIntersection
 pub mod ReadBack
+pub mod NewIntersection
 pub mod TimingCount
 pub mod Moved
 pub mod AddedRows
@@ -13,6 +12,5 @@ pub mod Turns
 pub mod Planned
 pub mod Revisions
 pub mod Shown
-pub mod IntersectionTable
 pub mod IntersectionCount
 pub mod ListedIntersections

@@ -6,7 +6,7 @@ use Rattle.cabinet_core.proofs.EntryLemmas.{entries_stand}
 use Rattle.office_tables_shelf.specs.{Content.Content}
 use Rattle.office_machine.specs.{Listed.intersection_listed, Listed.intersections_of, Office.Office, Office.Intersection, Office.side_of}
 use Rattle.office_machine.specs.declared.intersections.ListedIntersection.{ListedIntersection}
-use Rattle.office_desk_timing.specs.Listing.{ListsEachIntersection, listed_in, row_listed}
+use Rattle.office_desk_timing.specs.Listing.{ListsEachIntersection, listed_in}
 use Rattle.office_tables_decisions.specs.StandFor.{StandForSound, row_of}
 use Rattle.office_desk_timing.proofs.{IntersectionTable.Entry, IntersectionTable.of_entry, IntersectionTable.rows_read, TimingCount.committed_counted}
 
@@ -26,8 +26,7 @@ each_there office =
 module _ (tables : Content) (office : Office) (stands : StandForSound tables office) where
   one_listed : (e : Entry) → get office.intersections e.0 ≡ Some e.1 → listed_in tables (of_entry e) ≡ intersection_listed e
   one_listed e there =
-      ap (λ count. row_listed e.0 (row_of e.1) count)
-      (committed_counted tables office e.0 stands ∙ ap (λ (o : Option Intersection). len (side_of o).committed) there)
+      λ k. record (intersection_listed e) { rows = (committed_counted tables office e.0 stands ∙ ap (λ (o : Option Intersection). len (side_of o).committed) there) k }
 
   each_listed : (es : List Entry) → AllByRecursion (λ (e : Entry). get office.intersections e.0 ≡ Some e.1) es
       → map (listed_in tables) (map of_entry es) ≡ map intersection_listed es

@@ -1,5 +1,6 @@
 -- Steps of the transaction as commands in turn, all of them or none, are the lines of its table.
-use Rattle.std.proofs.Common.{◌≡◌, ℕ, Bool, true, false, cond, List, [], ◌∷◌, ◌++◌, map, Option, Some, None, Result, Ok, Err, refl, ap, subst, ◌∙◌}
+use Rattle.std.proofs.Common.{◌≡◌, ℕ, Bool, true, false, cond, List, [], ◌∷◌, ◌++◌, map, Option, Some, None, Result, Ok, Err, refl, ap, sym, subst, ◌∙◌}
+use Rattle.std.proofs.lemmas.Bool.{cond_both}
 use Rattle.std.specs.FinMap.{FinMap, get, get-insert, same_map, nat_cmp-IsAntisymmetric}
 use Rattle.std.specs.{Cmp.nat_cmp_total, Cmp.tied_itself, List.AllByRecursion, Ordering.nat_cmp, Ordering.eq_by_cmp, Ordering.is_eq}
 use Rattle.signal_records.specs.{declared.record.Change.Change}
@@ -8,6 +9,7 @@ use Rattle.signal_rules.specs.declared.violation.Violation.{Violation}
 use Rattle.signal_values.specs.Words.{AreWords}
 use Rattle.draft_core.specs.Revising.{and_then, committing, lines_of, opening_steps, taking_up}
 use Rattle.draft_core.specs.{Steps.asked_changes, Transaction.Draft, Transaction.TimingSide, Transaction.table_line, Within.AreChangesWithin, declared.refusal.DraftRefusal.DraftRefusal, declared.step.Step.Step, declared.step.Step.TheVariants.Edit}
+use Rattle.office_tables_shelf.proofs.CellLemmas.{tied}
 use Rattle.office_machine.specs.Office.{Intersection, Office}
 use Rattle.office_machine.specs.Step.{moved, moved_to, with_intersection}
 use Rattle.office_machine.specs.{declared.reply.Reply.Reply, declared.reply.Reply.TheVariants.Same}
@@ -22,67 +24,63 @@ last_put : {X : Type 0} (here : Bool) (late early : X) (there : Option X)
 last_put true late early there = refl
 last_put false late early there = refl
 
--- of two intersections under one number the last stands
-put_twice : (office : Office) (id : ℕ) (early late : Intersection)
-    → with_intersection (with_intersection office id early) id late ≡ with_intersection office id late
-put_twice office id early late = ap (λ (rows : FinMap nat_cmp Intersection). record office { intersections = rows })
-    (same_map nat_cmp_total nat_cmp-IsAntisymmetric _ _ (λ q. simp (get-insert {X = Intersection} nat_cmp_total)
-    (last_put (eq_by_cmp nat_cmp q id) late early (get office.intersections q))))
+module _ (office : Office) (id : ℕ) where
+  same_put : (late early : FinMap nat_cmp Intersection) → ((q : ℕ) → get late q ≡ get early q) → record office { intersections = late } ≡ record office { intersections = early }
+  same_put late early same = ap (λ (rows : FinMap nat_cmp Intersection). record office { intersections = rows })
+      (same_map nat_cmp_total nat_cmp-IsAntisymmetric late early same)
 
-put_found : (office : Office) (id : ℕ) (i : Intersection)
-    → get (with_intersection office id i).intersections id ≡ Some i
-put_found office id i = get-insert nat_cmp_total office.intersections id i id
-    ∙ ap (λ o. cond (is_eq o) (Some i) (get office.intersections id)) (tied_itself nat_cmp_total id)
+  -- of two intersections under one number the last stands
+  put_twice : (early late : Intersection) → with_intersection (with_intersection office id early) id late ≡ with_intersection office id late
+  put_twice early late = same_put _ _ (λ q. simp (get-insert {X = Intersection} nat_cmp_total)
+      (last_put (eq_by_cmp nat_cmp q id) late early (get office.intersections q)))
+
+  put_found : (i : Intersection) → get (with_intersection office id i).intersections id ≡ Some i
+  put_found i = get-insert nat_cmp_total office.intersections id i id
+      ∙ ap (λ o. cond (is_eq o) (Some i) (get office.intersections id)) (tied_itself nat_cmp_total id)
+
+  -- to put what is there leaves the office
+  put_same : (i : Intersection) → get office.intersections id ≡ Some i → with_intersection office id i ≡ office
+  put_same i there = same_put _ office.intersections (λ q. get-insert nat_cmp_total office.intersections id i q
+      ∙ cond_both (eq_by_cmp nat_cmp q id) (Some i) (get office.intersections q) (λ o. o ≡ get office.intersections q)
+      (λ hit. sym (ap (get office.intersections) (nat_cmp-IsAntisymmetric q id (tied _ hit)) ∙ there)) (λ miss. refl))
 
 -- ---- commands in turn
 
 module _ (office : Office) (id : ℕ) (clerk : List ℕ) (i : Intersection) where
-  -- what comes of the steps that are left
-  abbrev ends : List Step → Office → Reply → Reply × Office
-  ends steps now last = all_or_none office now last (map (asking_command id clerk) steps)
+  -- what comes of the steps that are left, where those before led to this timing side
+  abbrev ends : List Step → TimingSide → Reply → Reply × Office
+  ends steps side last = all_or_none office (with_intersection office id (with_timing_side i side)) last (map (asking_command id clerk) steps)
 
-  -- the steps led from the office to another one, which has this timing side in its place
-  record LedTo (now : Office) (side : TimingSide) : Type 0 where
-    there : get now.intersections id ≡ Some (with_timing_side i side)
-    rest : (next : Intersection) → with_intersection now id next ≡ with_intersection office id next
-
-  abbrev GoesOn : List Step → TimingSide → Type 0
-  GoesOn steps side =
-      ends steps (with_intersection office id (with_timing_side i side)) (moved_to side)
-      ≡ moved office id i (lines_of clerk steps side)
+  abbrev GoesOn : List Step → TimingSide → Reply → Type 0
+  GoesOn steps side last = ends steps side last ≡ moved office id i (lines_of clerk steps side)
 
   -- one of them, and the rest
-  one_goes : (step : Step) (steps : List Step) (now : Office) (side : TimingSide) (last : Reply)
-      → LedTo now side → ((next : TimingSide) → GoesOn steps next)
-      → (l : Result TimingSide DraftRefusal) → table_line step clerk side ≡ l
-      → ends (step ∷ steps) now last ≡ moved office id i (and_then l (lines_of clerk steps))
-  one_goes step steps now side last led more l line =
-      ap (λ (a : Reply × Office). unless_refused office a.0 (ends steps a.1 a.0))
-      (answered_at step now id clerk (with_timing_side i side) l led.there line)
-      ∙ elim l as (λ (r : Result TimingSide DraftRefusal). unless_refused office (moved now id (with_timing_side i side) r).0
-      (ends steps (moved now id (with_timing_side i side) r).1 (moved now id (with_timing_side i side) r).0)
-      ≡ moved office id i (and_then r (lines_of clerk steps))) [
-        | Ok next ↦ ap (λ now. ends steps now (moved_to next)) (led.rest (with_timing_side i next)) ∙ more next
+  one_goes : (step : Step) (steps : List Step) (side : TimingSide) (last : Reply) → ((next : TimingSide) → GoesOn steps next (moved_to next)) → GoesOn (step ∷ steps) side last
+  one_goes step steps side last more =
+      let here = with_timing_side i side in
+      let now = with_intersection office id here in
+      ap (λ (a : Reply × Office). unless_refused office a.0 (all_or_none office a.1 a.0 (map (asking_command id clerk) steps)))
+      (answered_at step now id clerk here _ (put_found office id here) refl)
+      ∙ elim (table_line step clerk side) as (λ (r : Result TimingSide DraftRefusal). unless_refused office (moved now id here r).0
+      (all_or_none office (moved now id here r).1 (moved now id here r).0 (map (asking_command id clerk) steps)) ≡ moved office id i (and_then r (lines_of clerk steps))) [
+        | Ok next ↦ ap (λ now. all_or_none office now (moved_to next) (map (asking_command id clerk) steps))
+            (put_twice office id here (with_timing_side i next)) ∙ more next
         | Err why ↦ refl
       ]
 
-  goes_on : (steps : List Step) (side : TimingSide) → GoesOn steps side
+  goes_on : (steps : List Step) (side : TimingSide) → GoesOn steps side (moved_to side)
   goes_on [] side = refl
-  goes_on (step ∷ steps) side =
-      let put = with_timing_side i side in
-      one_goes step steps (with_intersection office id put) side (moved_to side)
-      (record { there = put_found office id put; rest = put_twice office id put })
-      (goes_on steps) (table_line step clerk side) refl
+  goes_on (step ∷ steps) side = one_goes step steps side (moved_to side) (goes_on steps)
 
   -- one command at least, all or none, is the lines of the table
-  pub all_are : (before : List Step) (step : Step) (after : List Step)
-      → get office.intersections id ≡ Some i → ends (before ++ step ∷ after) office Same
-      ≡ moved office id i (lines_of clerk (before ++ step ∷ after) i.timing)
-  all_are [] step after there = one_goes step after office i.timing Same
-      (record { there = there; rest = λ next. refl }) (goes_on after) (table_line step clerk i.timing) refl
-  all_are (first ∷ before) step after there = one_goes first (before ++ step ∷ after) office i.timing Same
-      (record { there = there; rest = λ next. refl }) (goes_on (before ++ step ∷ after))
-      (table_line first clerk i.timing) refl
+  pub all_are : (before : List Step) (step : Step) (after : List Step) → get office.intersections id ≡ Some i
+      → all_or_none office office Same (map (asking_command id clerk) (before ++ step ∷ after)) ≡ moved office id i (lines_of clerk (before ++ step ∷ after) i.timing)
+  all_are before step after there =
+      ap (λ now. all_or_none office now Same (map (asking_command id clerk) (before ++ step ∷ after))) (sym (put_same office id i there)) ∙ go before
+    where
+      go : (before : List Step) → GoesOn (before ++ step ∷ after) i.timing Same
+      go [] = one_goes step after i.timing Same (goes_on after)
+      go (first ∷ before) = one_goes first (before ++ step ∷ after) i.timing Same (goes_on (before ++ step ∷ after))
 
 -- ---- what the lines keep
 

@@ -1,8 +1,6 @@
 //! The command AddIntersection.
-ghost use Rattle.std.specs.Prelude.{⊤, IfOk};
-ghost use Rattle.office_tables_decisions.specs.Reads.{OnlyReads};
-ghost use Rattle.office_desk_timing.specs.Adding.{AddsRow};
-ghost use Rattle.office_tables_decisions.specs.Deciding.{Decides};
+ghost use Rattle.std.specs.{Prelude.◌≡◌, Prelude.◌==◌, Prelude.◌&&◌, Prelude.⊤, Str.bytes_eq};
+ghost use Rattle.office_tables_decisions.specs.{Deciding.Decides, Reads.OnlyReads};
 
 use crate::reading::intersection_row;
 use draft_core::revision::Revision;
@@ -15,41 +13,16 @@ use office_tables_shelf::shelf::{Shelf, ShelfFault};
 use signal_records::{InterId, Interval, NoMemory, Words};
 use std::alloc::Global;
 
-/// The answer to AddIntersection, by the row that was read under the number: `Added`, with the new
-/// row, where none stands; `Same` where name and interval are equal; else `IntersectionDiffers`.
-fn answer_add(
-    alloc: Global,
-    id: InterId,
-    interval: Interval,
-    name: &Words<120>,
-    row: &Option<IntersectionRow>,
-) -> Result<Decided, NoMemory>
-    ensures { IfOk result (λ decided.
-        AddsRow id interval name.now row.now decided.reply decided.changes.items) }
+/// Whether the row has this name and interval.
+fn is_same(row: &IntersectionRow, interval: Interval, name: &Words<120>) -> bool
+    ensures { result ≡ (bytes_eq row.now.name name.now && (row.now.interval == interval)) }
 {
-    let _number = id.get();
-    let text = name.as_str();
-    let days = interval.get();
-    if let Some(row) = row {
-        let reply = if row.name.as_str() == text && row.interval.get() == days {
-            Reply::Same
-        } else {
-            Reply::Refused(Refusal::IntersectionDiffers)
-        };
-        return Ok(Decided::from_reply(alloc, reply));
-    }
-    let mut decided = Decided::from_reply(alloc, Reply::Added);
-    let row = IntersectionRow {
-        name: name.clone()?,
-        interval,
-        revision: Revision::first(),
-        holder: None,
-    };
-    decided.changes.push(RowChange::AddIntersection(id, row))?;
-    Ok(decided)
+    row.name.as_str() == name.as_str() && row.interval.get() == interval.get()
 }
 
 /// Decides the command AddIntersection; `interval` is the days from one inspection to the next.
+/// `Added`, with the new row, where none stands under the number; `Same` where name and interval
+/// are those of the row; else `IntersectionDiffers`.
 pub fn decide_add<S: Shelf>(
     shelf: &mut S,
     alloc: Global,
@@ -61,7 +34,23 @@ pub fn decide_add<S: Shelf>(
         (Command.AddIntersection id interval name.now) result }
     ensures reads { OnlyReads S.Shelf ⊤ result shelf.old shelf.new }
 {
-    let row = intersection_row(shelf, alloc, id)?;
-    let decided = answer_add(alloc, id, interval, name, &row)?;
-    Ok(decided)
+    let _number = id.get();
+    let _text = name.as_str();
+    let _days = interval.get();
+    let Some(row) = intersection_row(shelf, alloc, id)? else {
+        let row = IntersectionRow {
+            name: name.clone()?,
+            interval,
+            revision: Revision::first(),
+            holder: None,
+        };
+        let mut decided = Decided::from_reply(alloc, Reply::Added);
+        let change = RowChange::AddIntersection(id, row);
+        decided.changes.push(change).map_err(NoMemory::from)?;
+        return Ok(decided);
+    };
+    if is_same(&row, interval, name) {
+        return Ok(Decided::from_reply(alloc, Reply::Same));
+    }
+    Ok(Decided::from_refusal(alloc, Refusal::IntersectionDiffers))
 }

@@ -2,16 +2,13 @@
 #![tactic(auto)]
 
 mod adding;
-mod listing;
-mod moving;
 mod reading;
 mod revising;
 mod showing;
 mod transacting;
 
 pub use adding::decide_add;
-pub use listing::list_intersections;
 pub use reading::intersection_row;
 pub use revising::{PlanEdit, decide_revision};
-pub use showing::{decide_draft, decide_state, decide_timing};
+pub use showing::{decide_draft, decide_state, decide_timing, list_intersections};
 pub use transacting::transact;

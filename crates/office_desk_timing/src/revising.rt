@@ -1,10 +1,10 @@
 //! A clerk's edit of a plan, decided in one step.
-ghost use Rattle.std.specs.Prelude.{◌≡◌, [], None, IfOk, IsTrue, ⊤};
-ghost use Rattle.office_desk_timing.specs.Revising.{AreChangesTo, DecidesEdit, PlansChanges, plan_from};
+ghost use Rattle.std.specs.Prelude.{◌≡◌, ◌↔◌, [], None, IfOk, IsTrue, ⊤};
 ghost use Rattle.office_tables_decisions.specs.Reads.{OnlyReads};
+ghost use Rattle.office_desk_timing.specs.Revising.{AreChangesTo, DecidesEdit, PlansChanges};
 
-use crate::moving::answer;
 use crate::reading::find;
+use crate::transacting::answer;
 use draft_core::changes::Changes;
 use draft_core::timing::{Reach, Timing};
 use draft_core::{overlay, revise};
@@ -27,16 +27,6 @@ pub struct PlanEdit {
     pub commits: bool,
 }
 
-/// The plan that an edit asks for, by the rows that the clerk goes on with.
-fn plan_of(alloc: Global, base: &TimingSet, edit: &PlanEdit) -> Result<TimingSet, NoMemory>
-    ensures { IfOk result (λ plan. plan ≡ plan_from edit.now base.now) }
-{
-    if edit.replaces {
-        return TimingSet::new(alloc).changed(edit.changes.as_slice());
-    }
-    overlay(alloc, base, edit.changes.as_slice())
-}
-
 /// The changes that make the second set of the first, one for each key at which they differ.
 fn changes_to(alloc: Global, first: &TimingSet, second: &TimingSet) -> Result<Vec<Change>, NoMemory>
     ensures { IfOk result (λ changes. AreChangesTo first.now second.now changes.items) }
@@ -56,7 +46,11 @@ fn plan_changes(
         PlansChanges timing.now edit.now planned.0 planned.1.items) }
 {
     let base = overlay(alloc, &timing.committed, timing.delta.as_slice())?;
-    let plan = plan_of(alloc, &base, edit)?;
+    let plan = if edit.replaces {
+        TimingSet::new(alloc).changed(edit.changes.as_slice())?
+    } else {
+        overlay(alloc, &base, edit.changes.as_slice())?
+    };
     let edits = Changes::new(changes_to(alloc, &base, &plan)?);
     let settled = changes_to(alloc, &timing.committed, &plan)?;
     Ok((edits, settled))
@@ -64,8 +58,7 @@ fn plan_changes(
 
 /// Nothing is to be done: nobody holds a draft, and the plan is the committed set.
 fn asks_nothing(timing: &Timing, settled: &[Change]) -> bool
-    ensures is { IsTrue result → (timing.now.holder ≡ None) × (settled.now ≡ []) }
-    ensures other { timing.now.holder ≡ None → settled.now ≡ [] → IsTrue result }
+    ensures { IsTrue result ↔ ((timing.now.holder ≡ None) × (settled.now ≡ [])) }
 {
     timing.holder.is_none() && settled.is_empty()
 }

@@ -1,17 +1,90 @@
-//! The steps of the transaction, by which a clerk changes an intersection's timing.
-ghost use Rattle.std.specs.Prelude.{⊤};
-ghost use Rattle.office_tables_decisions.specs.Reads.{OnlyReads};
-ghost use Rattle.office_tables_decisions.specs.Deciding.{Decides};
-ghost use Rattle.office_tables_decisions.specs.Asking.{asking_command};
+//! The steps of the transaction, by which a clerk changes an intersection's timing: what each is
+//! answered, and the rows that it writes.
+ghost use Rattle.std.specs.Prelude.{◌≡◌, ◌∷◌, ⊤, IfOk};
+ghost use Rattle.office_tables_decisions.specs.{Asking.asking_command, Deciding.Decides, Reads.OnlyReads};
+ghost use Rattle.office_desk_timing.specs.Moving.{TellsDecision, row_change_of, row_changes_of};
 
-use crate::moving::answer;
-use crate::reading::find;
+use crate::reading::{Found, find};
 use draft_core::step::Step;
+use draft_core::{DraftRefusal, Move, TimingChange, TimingChanges, next_holder};
 use office_machine::refusal::Refusal;
+use office_machine::reply::Reply;
 use office_tables_decisions::decided::Decided;
+use office_tables_shelf::rows::{IntersectionRow, RowChange};
 use office_tables_shelf::shelf::{Shelf, ShelfFault};
-use signal_records::{InterId, Words};
+use signal_records::{Change, InterId, NoMemory, Words};
 use std::alloc::Global;
+
+/// A change of the committed rows or of the draft of an intersection's timing, as a change of rows
+/// of the tables.
+fn row_change(id: InterId, change: TimingChange) -> RowChange
+    ensures { result ≡ row_change_of id change }
+{
+    match change {
+        TimingChange::CommittedNew(row) => RowChange::AddTiming(id, row),
+        TimingChange::Committed(Change::Put(row)) => RowChange::PutTiming(id, row),
+        TimingChange::Committed(Change::Remove(key)) => RowChange::RemoveTiming(id, key),
+        TimingChange::DraftedNew(change) => RowChange::AddDraft(id, change),
+        TimingChange::Drafted(change) => RowChange::PutDraft(id, change),
+        TimingChange::DraftGone(key) => RowChange::RemoveDraft(id, key),
+        TimingChange::DraftDropped(rows) => RowChange::DropDraft(id, rows),
+    }
+}
+
+/// The changes of rows that a move writes: the intersection's own row, and then those of its timing
+/// side, in order.
+fn row_changes(
+    alloc: Global,
+    id: InterId,
+    row: IntersectionRow,
+    changes: TimingChanges,
+) -> Result<Vec<RowChange>, NoMemory>
+    ensures { IfOk result (λ made. made.items
+        ≡ RowChange.PutIntersection id row ∷ row_changes_of id changes) }
+{
+    let mut made = Vec::new(alloc);
+    made.push(RowChange::PutIntersection(id, row))?;
+    for change in changes.into_vec() {
+        made.push(row_change(id, change))?;
+    }
+    Ok(made)
+}
+
+/// The answer to a decision of the transaction on what this clerk asked for: a move with its rows,
+/// or a refusal without any. A refusal for want of memory is the fault `NoMemory`.
+pub(crate) fn answer(
+    alloc: Global,
+    id: InterId,
+    clerk: &Words<40>,
+    found: Found,
+    decision: Result<Move, DraftRefusal>,
+) -> Result<Decided, ShelfFault>
+    ensures { TellsDecision id clerk.now found decision result }
+{
+    let step = match decision {
+        Ok(step) => step,
+        Err(DraftRefusal::NoMemory) => return Err(ShelfFault::NoMemory),
+        Err(refusal) => return Ok(Decided::from_refusal(alloc, Refusal::Draft(refusal))),
+    };
+    let Found {
+        name,
+        interval,
+        timing,
+    } = found;
+    let row = IntersectionRow {
+        name,
+        interval,
+        revision: step.revision,
+        holder: next_holder(step.holder, timing.holder, clerk)?,
+    };
+    let reply = Reply::Moved {
+        revision: step.revision,
+        state: step.state,
+        verdict: step.verdict,
+    };
+    let changes = row_changes(alloc, id, row, step.changes)?;
+    Ok(Decided { reply, changes })
+}
 
 /// Decides a step of the transaction that this clerk asks for; `UnknownIntersection` where the
 /// intersection is not there.
