@@ -2,11 +2,11 @@
 use Rattle.std.proofs.Common.{◌≡◌, List, [], ◌++◌, map, filter, Option, sym, subst}
 use Rattle.std.specs.{Prelude.IfSome, Prelude.is_some, FinMap.empty, FinMap.get-empty, List.flat_map, List.list_any}
 use Rattle.signal_records.specs.{Key.key_cmp, Row.key_of, Within.IsRowWithin, Within.current_limits, declared.key.Key.Key, declared.record.Row.Row}
-use Rattle.signal_records.specs.declared.key.Key.TheVariants as key
 use Rattle.signal_rules.specs.Lookup.{phase_numbers, ring_numbers, sequence_numbers, split_numbers, pattern_numbers, the_phase, the_list, the_split, the_pattern}
 use Rattle.signal_rules.specs.{Violations.violations_at, Violations.violations_of, declared.violation.Subject.Subject}
-use Rattle.signal_rules.specs.declared.violation.Subject.TheVariants as subject
 use Rattle.office_machine.specs.Office.{AreRecords}
+use Rattle.signal_records.specs.declared.key.Key.TheVariants as key
+use Rattle.signal_rules.specs.declared.violation.Subject.TheVariants as subject
 
 -- what holds of no row holds of each row of the empty set
 pub no_records : AreRecords empty

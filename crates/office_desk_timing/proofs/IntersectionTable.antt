@@ -4,7 +4,7 @@ use Rattle.std.specs.{Cmp.nat_cmp_total, Int.IsInRange, FinMap.entries, FinMap.g
 use Rattle.signal_values.specs.Words.{AreWords}
 use Rattle.signal_records.specs.declared.{state.Holder.Holder, state.Stage.Stage, state.Stage.TheVariants.Transaction, state.Stage.TheVariants.Verify, state.Stage.TheVariants.Done}
 use Rattle.draft_core.specs.Transaction.{Draft, holder_of}
-use Rattle.office_tables_shelf.specs.Rows.{IsIntersectionRow, intersection_key, intersection_columns, stage_number, state_number, owner_cell}
+use Rattle.office_tables_shelf.specs.Rows.{intersection_key, intersection_columns, stage_number, state_number, owner_cell}
 use Rattle.office_tables_shelf.specs.{Cells.Cell, Cells.TableRows, Content.Content, Damage.HasAnyDamagedIntersection, Shelf.IsThere, Shelf.ListsIntersections, Shelf.ReadsIntersection, declared.rows.IntersectionRow.IntersectionRow}
 use Rattle.office_tables_shelf.proofs.{KeyCells.intersection_order, StoredMaps.get_stored, StoredMaps.stored_entries, StoredMaps.stored_found}
 use Rattle.office_machine.specs.Office.{Office, Intersection, IsSoundDraft, IsSoundIntersection}

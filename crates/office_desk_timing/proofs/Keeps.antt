@@ -5,14 +5,13 @@ use Rattle.std.specs.{Prelude.IfSome, FinMap.get}
 use Rattle.signal_values.specs.Words.{AreWords}
 use Rattle.signal_records.specs.{Row.key_of, TimingSet.Rows, TimingSet.after_changes, Within.IsRowWithin, Within.current_limits, declared.key.Key.Key, declared.record.Row.Row, declared.record.Change.Change, declared.revision.TheConstants.LAST_REVISION, declared.state.Stage.Stage, declared.state.Stage.TheVariants.Transaction}
 use Rattle.signal_rules.specs.Violations.{violations_of}
-use Rattle.draft_core.specs.{DraftRows.Said, DraftRows.silent, DraftRows.leaves, DraftRows.removes, DraftRows.overlaid_row, DraftRows.row_at, Steps.asked_changes, Within.AreChangesWithin, declared.refusal.DraftRefusal.DraftRefusal, declared.step.Step.Step}
+use Rattle.draft_core.specs.{DraftRows.Said, DraftRows.silent, DraftRows.leaves, DraftRows.removes, DraftRows.overlaid_row, DraftRows.row_at, Steps.asked_changes, Within.AreChangesWithin, declared.refusal.DraftRefusal.DraftRefusal, declared.step.Step.Step, declared.refusal.DraftRefusal.TheVariants.NotNormal, declared.refusal.DraftRefusal.TheVariants.NotTransaction}
 use Rattle.draft_core.specs.Transaction.{TimingSide, Draft, holder_of, owned, with_draft, begun_from, abandoned_from, table_line}
-use Rattle.draft_core.specs.declared.refusal.DraftRefusal.TheVariants.{NotNormal, NotTransaction}
-use Rattle.draft_core.specs.declared.step.Step.TheVariants as step
 use Rattle.draft_core.proofs.{Overlaid.get-after_changes, Sound.owned_inverts, Sound.committed_inverts}
 use Rattle.office_machine.specs.Office.{Intersection, IsSoundIntersection, IsSoundDraft, AreRecords}
 use Rattle.office_tables_decisions.specs.StandFor.{IsSaid}
 use Rattle.office_desk_timing.proofs.ReadBack.{row_at_within}
+use Rattle.draft_core.specs.declared.step.Step.TheVariants as step
 
 -- ---- records after changes
 

@@ -3,14 +3,9 @@ pub mod IntersectionTable
 pub mod Stands
 pub mod ReadBack
 pub mod NewIntersection
-pub mod TimingCount
+pub mod ListedIntersections
 pub mod Moved
-pub mod AddedRows
 pub mod Keeps
 pub mod Transactions
-pub mod Turns
-pub mod Planned
 pub mod Revisions
 pub mod Shown
-pub mod IntersectionCount
-pub mod ListedIntersections

@@ -1,25 +1,24 @@
 -- What AddIntersection answers, on the row that was read, is a step of the office.
-use Rattle.std.proofs.Common.{◌≡◌, ◌≢◌, ℕ, ◌≤◌, List, [], ◌∷◌, Option, Some, None, refl, ap, sym, subst, ◌∙◌, inr, lit≤, arith, if◌then◌else◌, ◌==◌, ◌&&◌, bytes_eq}
+use Rattle.std.proofs.Common.{◌≡◌, ◌≢◌, ℕ, ◌≤◌, List, [], ◌∷◌, Some, None, refl, ap, sym, subst, ◌∙◌, inr, lit≤, arith, if◌then◌else◌, ◌==◌, ◌&&◌, bytes_eq}
 use Rattle.std.specs.{FinMap.get, Int.IsInRange}
 use Rattle.signal_values.specs.Words.{AreWords}
 use Rattle.draft_core.specs.Transaction.{TimingSide}
-use Rattle.office_tables_shelf.specs.{Cells.TableRows, Change.changed, Content.Content, Counts.writes_in, Shelf.ReadsIntersection, declared.rows.IntersectionRow.IntersectionRow, declared.rows.RowChange.TheVariants.AddIntersection as AddRow, declared.rows.Table.Table}
-use Rattle.office_tables_shelf.specs.declared.rows.Table.TheVariants as table
+use Rattle.office_tables_shelf.specs.{Change.changed, Content.Content, Counts.writes_in, Shelf.ReadsIntersection, declared.rows.IntersectionRow.IntersectionRow, declared.rows.RowChange.TheVariants.AddIntersection as AddRow, declared.rows.Table.Table}
 use Rattle.office_machine.specs.{Office.Office, Office.side_of, Step.add_step, Step.new_intersection, Step.with_intersection, declared.command.Command.TheVariants.AddIntersection, declared.reply.Reply.Reply}
-use Rattle.office_machine.specs.declared.refusal.Refusal.TheVariants as refusal
-use Rattle.office_machine.specs.declared.reply.Reply.TheVariants as reply
 use Rattle.office_tables_decisions.specs.{Changes.most_writes, Deciding.IsDecision, Named.RefusesBy, StandFor.StandFor, StandFor.row_of, declared.decided.Decided.Decided}
 use Rattle.office_tables_decisions.proofs.Decisions.{accepted_decides, told_decides}
-use Rattle.office_desk_timing.proofs.Stands.{PlanStands, Spares, same_register, sound_with, stand_after, still_stands}
+use Rattle.office_desk_timing.proofs.Stands.{PlanStands, same_register, sound_with, stand_after, still_stands, unchanged}
 use Rattle.office_desk_timing.proofs.{EmptySet.no_records, EmptySet.no_violations, IntersectionTable.not_there, IntersectionTable.there}
+use Rattle.office_tables_shelf.specs.declared.rows.Table.TheVariants as table
+use Rattle.office_machine.specs.declared.refusal.Refusal.TheVariants as refusal
+use Rattle.office_machine.specs.declared.reply.Reply.TheVariants as reply
 
 new_stands : (tables : Content) (office : Office) (id interval : ℕ) (name : List ℕ) → StandFor tables office → get office.intersections id ≡ None
     → StandFor (changed tables (AddRow id (row_of (new_intersection interval name)))) (with_intersection office id (new_intersection interval name))
 new_stands tables office id interval name stand absent =
     let new : Content = changed tables (AddRow id (row_of (new_intersection interval name))) in
-    let spares = λ (rows : TableRows). let same : Spares id rows rows = record { others = λ q ne key. refl; keys = λ has. has } in same in
     stand_after tables new office id (new_intersection interval name) stand
-    (record { timing = spares tables.timing; draft = spares tables.draft; register = same_register tables _ _ _ })
+    (record { timing = unchanged id tables.timing; draft = unchanged id tables.draft; register = same_register tables _ _ _ })
     (λ key. subst (λ (side : TimingSide). PlanStands new side id key) (ap side_of absent) (still_stands tables new office id key stand refl refl)) refl
 
 module _ (is_honest : Type 0) (tables : Content) (id interval : ℕ) (name : List ℕ) (decided : Decided) where

@@ -2,11 +2,9 @@
 use Rattle.std.proofs.Common.{◌≡◌, ℕ, List, [], ◌∷◌, map, Option, Some, None, refl, ap, sym, subst, ◌∙◌}
 use Rattle.std.proofs.lemmas.Bool.{cond_both}
 use Rattle.std.specs.{List.AllByRecursion, Ordering.eq_by_cmp, FinMap.empty, FinMap.get, FinMap.get-empty, FinMap.same_map}
-use Rattle.signal_records.specs.{ChangedRows.changed_key, Key.key_cmp, KeyOrder.key_total, KeyOrder.key_exact, Row.key_of, TimingSet.Rows, Within.IsRowWithin, Within.IsChangeWithin, Within.current_limits}
-use Rattle.signal_records.specs.declared.{key.Key.Key, record.Row.Row, record.Change.Change, record.Change.TheVariants.Put, record.Change.TheVariants.Remove}
-use Rattle.draft_core.specs.DraftRows.{RowsByKey, Said, silent, leaves, removes, IsRead, RowStands, Stands, later_of, overlaid_row, row_at, said_at, said_by}
+use Rattle.signal_records.specs.{Key.key_cmp, KeyOrder.key_total, KeyOrder.key_exact, Row.key_of, TimingSet.Rows, Within.IsRowWithin, Within.IsChangeWithin, Within.current_limits, declared.key.Key.Key, declared.record.Row.Row, declared.record.Change.Change, declared.record.Change.TheVariants.Put, declared.record.Change.TheVariants.Remove}
+use Rattle.draft_core.specs.DraftRows.{RowsByKey, Said, silent, leaves, removes, IsRead, RowStands, Stands, later_of, overlaid_row, row_at, said_at}
 use Rattle.draft_core.specs.{Transaction.TimingSide, Within.AreChangesWithin, declared.timing.Timing.Timing, declared.timing.Reach.Reach}
-use Rattle.draft_core.specs.declared.timing.Reach.TheVariants as reach
 use Rattle.draft_core.proofs.Overlaid.{get-after_changes}
 use Rattle.office_tables_shelf.specs.{Cells.Cell, Content.Content, Rows.draft_columns, Rows.draft_key, Rows.timing_columns, Rows.timing_key, Shelf.ListsDraft, declared.rows.IntersectionRow.IntersectionRow}
 use Rattle.office_tables_shelf.proofs.{CellLemmas.tied, RowLemmas.timing_columns_tell}
@@ -14,20 +12,15 @@ use Rattle.office_machine.specs.Office.{Office, Intersection, side_at, side_of}
 use Rattle.office_tables_decisions.{proofs.DraftLemmas.get_listed_draft, specs.Committed.IsCommittedSet, specs.StandFor.IsSaid, specs.StandFor.StandForSound, specs.StandFor.row_of, specs.StandFor.said_columns}
 use Rattle.office_desk_timing.specs.{Reading.Finds, Reading.ReadsPlan, Reading.drafts_at, Reading.row_found, declared.reading.Found.Found}
 use Rattle.office_desk_timing.proofs.{IntersectionTable.there, Stands.Says, Stands.committed_said, Stands.draft_says, Stands.timing_says}
+use Rattle.draft_core.specs.declared.timing.Reach.TheVariants as reach
 
--- ---- what changes within their limits say
+-- ---- what changes within their limits say of a key
 
-said_by_within : (change : Change) (key : Key) → key ≡ changed_key change
-    → IsChangeWithin current_limits change → IsSaid key (said_by change)
-said_by_within (Put row) key is within = (within, sym is)
-said_by_within (Remove k) key is within = subst (λ k. IsSaid k removes) (sym is) within
-
--- of a key
-said_at_within : (change : Change) (key : Key) → IsChangeWithin current_limits change
-    → IsSaid key (said_at change key)
-said_at_within change key within =
-    cond_both (eq_by_cmp key_cmp key (changed_key change)) (said_by change) silent (IsSaid key)
-    (λ named. said_by_within change key (key_exact _ _ (tied _ named)) within) (λ other. tt)
+said_at_within : (change : Change) (key : Key) → IsChangeWithin current_limits change → IsSaid key (said_at change key)
+said_at_within (Put row) key within =
+    cond_both (eq_by_cmp key_cmp key (key_of row)) (leaves row) silent (IsSaid key) (λ hit. (within, sym (key_exact _ _ (tied _ hit)))) (λ miss. tt)
+said_at_within (Remove k) key within =
+    cond_both (eq_by_cmp key_cmp key k) removes silent (IsSaid key) (λ hit. subst (λ k. IsSaid k removes) (sym (key_exact _ _ (tied _ hit))) within) (λ miss. tt)
 
 -- and over what was said
 pub later_within : (key : Key) (late early : Said) → IsSaid key late → IsSaid key early
@@ -102,26 +95,26 @@ plan_read reach.Plan tables office id timing stands reads = (
 
 -- ---- what was found
 
--- what was found is the row of an intersection and, with these draft rows, stands for its timing side, as far as that was read
-pub record FoundStands (reach : Reach) (rows : RowsByKey) (i : Intersection) (found : Found) : Type 0 where
+-- the intersection that was found is there with its row, and what was found stands for its timing side, as far as that was read
+pub record FoundThere (reach : Reach) (tables : Content) (id : ℕ) (found : Found) (office : Office) (stands_for : StandForSound tables office) : Type 0 where
+  pub i : Intersection
+  pub there : get office.intersections id ≡ Some i
   pub row : row_found found ≡ row_of i
-  pub timing_stands : Stands reach found.timing rows i.timing
+  pub stands : Stands reach found.timing (drafts_at stands_for.stand id) i.timing
 
--- the intersection that was found is there
 pub found_there : (reach : Reach) (tables : Content) (office : Office) (id : ℕ) (found : Found) (stands : StandForSound tables office)
-    → Finds reach tables id (Some found) → (i : Intersection) × (get office.intersections id ≡ Some i) × FoundStands reach (drafts_at stands.stand id) i found
+    → Finds reach tables id (Some found) → FoundThere reach tables id found office stands
 found_there reach tables office id found stands finds =
     let at = there tables office id stands (row_found found) finds.0 in
-    let side : side_at office id ≡ at.0.timing = ap side_of at.1 in (
-      at.0,
-      at.1,
-      record {
-        row = at.2;
-        timing_stands = record {
-          same_revision = ap (λ (r : IntersectionRow). r.revision) at.2;
-          same_holder = ap (λ (r : IntersectionRow). r.holder) at.2;
-          draft = λ key. subst (λ (s : TimingSide). RowStands (get s.committed key) (drafts_at stands.stand id key) s.draft key) side (stands.stand.draft id key).stands;
-          read = subst (IsRead reach found.timing (drafts_at stands.stand id)) side (plan_read reach tables office id found.timing stands finds.1);
-        };
-      },
-    )
+    let side : side_at office id ≡ at.0.timing = ap side_of at.1 in
+    record {
+      i = at.0;
+      there = at.1;
+      row = at.2;
+      stands = record {
+        same_revision = ap (λ (r : IntersectionRow). r.revision) at.2;
+        same_holder = ap (λ (r : IntersectionRow). r.holder) at.2;
+        draft = λ key. subst (λ (s : TimingSide). RowStands (get s.committed key) (drafts_at stands.stand id key) s.draft key) side (stands.stand.draft id key).stands;
+        read = subst (IsRead reach found.timing (drafts_at stands.stand id)) side (plan_read reach tables office id found.timing stands finds.1);
+      };
+    }

@@ -1,25 +1,127 @@
 -- What an edit of a plan is answered, on what was found, is a run of its steps, all of them or none.
-use Rattle.std.proofs.Common.{◌≡◌, ◌≢◌, ◌≤◌, ℕ, List, [], Option, Some, None, Result, Ok, Err, refl, sym, subst, ◌∙◌, inl, inr, arith}
-use Rattle.std.proofs.Math.Path.{subst₂}
-use Rattle.std.specs.{FinMap.get, Prelude.IfOk}
-use Rattle.signal_records.specs.{TimingSet.after_changes, declared.record.Change.Change, declared.state.DbState.DbState, declared.state.DbState.TheVariants.Normal}
-use Rattle.signal_rules.specs.Violations.{violations_of}
-use Rattle.signal_values.specs.Words.{AreWords}
-use Rattle.draft_core.specs.Revising.{Revises, RevisionWrites, WritesRows, base_of, committing, lines_of, revision_steps, taking_up}
-use Rattle.draft_core.specs.{DraftRows.RowsByKey, DraftRows.Stands, Moves.draft_writes, Moves.drafted_in, Transaction.TimingSide, declared.refusal.DraftRefusal.DraftRefusal, declared.refusal.DraftRefusal.TheVariants.NoMemory, declared.step.Step.TheVariants.Edit, declared.timing.Move.Move, declared.timing.Reach.TheVariants.Plan}
-use Rattle.draft_core.proofs.OnlyChanges.{among_within}
+use Rattle.std.proofs.Common.{◌≡◌, ℕ, Bool, true, cond, List, [], ◌∷◌, ◌++◌, map, Option, Some, None, Result, Ok, Err, refl, ap, sym, subst, ◌∙◌, length, ◌≢◌, inl, inr, arith}
+use Rattle.std.proofs.{Math.Path.subst₂, lemmas.List.length-map}
+use Rattle.std.specs.{FinMap.get, Cmp.tied_itself, List.AllByRecursion, Ordering.is_eq, List.Sorted.IsStrictlySortedBy, Option.option_map, Prelude.IfOk}
+use Rattle.signal_values.specs.{Words.AreWords}
+use Rattle.signal_records.specs.{declared.record.Change.Change, declared.state.Stage.TheVariants.Transaction, declared.state.Stage.TheVariants.Verify, declared.state.Stage.TheVariants.Done, ChangedRows.changed_key, Key.key_cmp, KeyOrder.key_total, TimingSet.Rows, TimingSet.after_changes, declared.record.Row.Row, declared.state.DbState.DbState, declared.state.DbState.TheVariants.Normal}
+use Rattle.signal_rules.specs.{declared.violation.Violation.Violation}
+use Rattle.signal_plans.specs.Difference.{AreTold, Explains, change_of, difference_at, difference_changes, place_of}
+use Rattle.signal_plans.specs.{declared.difference.Difference.Difference, declared.difference.Difference.TheVariants.Added, declared.difference.Difference.TheVariants.Removed, declared.difference.Difference.TheVariants.Changed}
+use Rattle.draft_core.specs.Revising.{and_then, committing, lines_of, opening_steps, taking_up, base_of, Revises, RevisionWrites, WritesRows, revision_steps}
+use Rattle.draft_core.specs.Transaction.{Draft, TimingSide, table_line, holder_of}
+use Rattle.draft_core.specs.{Steps.asked_changes, Within.AreChangesWithin, declared.refusal.DraftRefusal.DraftRefusal, declared.step.Step.Step, declared.step.Step.TheVariants.Edit, DraftRows.RowsByKey, DraftRows.Stands, News.AreInOrder, declared.timing.Reach.TheVariants.Plan, declared.timing.Timing.Timing, Moves.drafted_in, declared.refusal.DraftRefusal.TheVariants.NoMemory, declared.timing.Move.Move}
+use Rattle.draft_core.proofs.{Lines.free_of, Overlaid.base_is, OnlyChanges.among_within}
 use Rattle.office_tables_shelf.specs.{Content.Content, Shelf.ListsDraft, declared.shelf.ShelfFault.ShelfFault}
+use Rattle.office_machine.specs.{Office.Intersection, Office.side_at, Office.side_of, declared.reply.Reply.Reply, declared.reply.Reply.TheVariants.Same, declared.reply.Reply.TheVariants.Moved, declared.reply.Reply.TheVariants.Refused}
+use Rattle.office_tables_decisions.specs.{declared.decided.Decided.Decided}
+use Rattle.office_desk_timing.specs.Revising.{AreChangesTo, IsCommittedAlready, PlansChanges, plan_asked, plan_from, AnswersAnyEdit, DecidesEdit, EditWrites, IsEditDecision, IsMoved}
+use Rattle.office_desk_timing.specs.Moving.{TellsDecision, rows_of_move, rows_to, said_to}
+use Rattle.office_desk_timing.specs.{declared.revising.PlanEdit.PlanEdit, Reading.Finds, declared.reading.Found.Found}
+use Rattle.office_desk_timing.proofs.Transactions.{comes, if_ok, listed_many, news_to, none_written, refused_to, undamaged_to, written}
+use Rattle.office_desk_timing.proofs.{Keeps.IsSoundSide, Keeps.line_keeps, IntersectionTable.not_there, ReadBack.found_there}
 use Rattle.office_tables_shelf.specs.declared.rows.Table.TheVariants as table
 use Rattle.office_tables_shelf.specs.declared.shelf.ShelfFault.TheVariants as fault
-use Rattle.office_machine.specs.{Office.Intersection, Office.side_at, Office.side_of, declared.reply.Reply.Reply}
 use Rattle.office_machine.specs.declared.refusal.Refusal.TheVariants as refusal
-use Rattle.office_machine.specs.declared.reply.Reply.TheVariants.{Moved, Refused, Same}
-use Rattle.office_tables_decisions.specs.declared.decided.Decided.{Decided}
-use Rattle.office_desk_timing.specs.Revising.{AnswersAnyEdit, DecidesEdit, EditWrites, IsEditDecision, IsMoved, PlansChanges}
-use Rattle.office_desk_timing.specs.{Moving.TellsDecision, Moving.rows_of_move, Moving.rows_to, Moving.said_to, Reading.Finds, declared.reading.Found.Found, declared.revising.PlanEdit.PlanEdit}
-use Rattle.office_desk_timing.proofs.Planned.{asks_idle, changes_counted, changes_in_order, edits_make, idle_asks, settled_make}
-use Rattle.office_desk_timing.proofs.Transactions.{comes, if_ok, listed_many, news_to, no_more, none_written, refused_to, undamaged_to, written}
-use Rattle.office_desk_timing.proofs.{IntersectionTable.not_there, ReadBack.found_there, Turns.all_are, Turns.lines_keep, Turns.revision_within}
+
+-- ---- what the lines keep
+
+-- the step asks for changes within their limits
+abbrev AsksWithin : Step → Type 0
+AsksWithin step = AreChangesWithin (asked_changes step)
+
+-- a sound timing side stays sound
+pub lines_keep : (clerk : List ℕ) → AreWords 40 clerk → (last : TimingSide) (steps : List Step) (side : TimingSide)
+    → AllByRecursion AsksWithin steps → IsSoundSide side → lines_of clerk steps side ≡ Ok last → IsSoundSide last
+lines_keep clerk words last [] side within sound is = subst IsSoundSide (let same : side ≡ last = cc in same) sound
+lines_keep clerk words last (step ∷ steps) side within sound is =
+    elim (table_line step clerk side) as (λ l. table_line step clerk side ≡ l
+    → and_then l (lines_of clerk steps) ≡ Ok last → IsSoundSide last) [
+      | Ok next ↦ λ line rest. lines_keep clerk words last steps next within.1
+          (line_keeps step clerk side next words within.0 sound line) rest
+      | Err why ↦ λ line rest. absurd (let f : Err why ≡ Ok last = rest in cc)
+    ] refl is
+
+committing_within : (commits : Bool) (violations : List Violation)
+    → AllByRecursion AsksWithin (committing commits violations)
+committing_within true [] = (tt, (tt, (tt, tt)))
+committing_within _ violations = tt
+
+pub revision_within : (held : Option Draft) (edits : List Change) (commits : Bool) (violations : List Violation)
+    → AreChangesWithin edits
+    → AllByRecursion AsksWithin (taking_up held ++ Edit edits ∷ committing commits violations)
+revision_within None edits commits violations within = (tt, (within, committing_within commits violations))
+revision_within (Some draft) edits commits violations within =
+    let all : AllByRecursion AsksWithin (Edit edits ∷ committing commits violations) = (within, committing_within commits violations) in
+    elim draft.stage as (λ stage. AllByRecursion AsksWithin
+    (opening_steps stage ++ Edit edits ∷ committing commits violations)) [
+      | Transaction ↦ all
+      | Verify ↦ (tt, (tt, all))
+      | Done ↦ (tt, all)
+    ]
+
+-- ---- changes to another set
+
+change_places : (found : List Difference)
+    → map place_of found ≡ map changed_key (difference_changes found)
+change_places [] = refl
+change_places (Added row ∷ ds) = λ k. changed_key (change_of (Added row)) ∷ change_places ds k
+change_places (Removed row ∷ ds) = λ k. changed_key (change_of (Removed row)) ∷ change_places ds k
+change_places (Changed before after ∷ ds) =
+    λ k. changed_key (change_of (Changed before after)) ∷ change_places ds k
+
+-- a set does not differ from itself
+differs : (d : Difference) (row : Option Row) → Explains row row (Some d) → ⊥
+differs (Added new) row told = let f : None ≡ Some new = sym told.0 ∙ told.1 in cc
+differs (Removed old) row told = let f : Some old ≡ None = sym told.0 ∙ told.1 in cc
+differs (Changed before after) row told =
+    told.2 (let f : Some before ≡ Some after = sym told.0 ∙ told.1 in cc)
+
+none_told : (first second : Rows) (found : List Difference) → AreTold first second found
+    → second ≡ first → found ≡ []
+none_told first second [] told same = refl
+none_told first second (d ∷ ds) told same =
+    let key = place_of d in
+    let here : difference_at key (d ∷ ds) ≡ Some d =
+    ap (λ o. cond (is_eq o) (Some d) (difference_at key ds)) (tied_itself key_total key) in
+    absurd (differs d (get first key)
+    (subst₂ (λ (set : Rows) (at : Option Difference). Explains (get first key) (get set key) at)
+    same here (told.explained key)))
+
+module _ {first second : Rows} {changes : List Change} (to : AreChangesTo first second changes) where
+  -- they are in the order of their keys, one for each difference
+  pub changes_in_order : AreInOrder changes
+  changes_in_order = subst AreInOrder (sym to.are)
+      (subst (IsStrictlySortedBy key_cmp) (change_places to.found) to.told.ascending)
+
+  pub changes_counted : length changes ≡ length to.found
+  changes_counted = ap length to.are ∙ length-map to.found change_of
+
+  changes_none : second ≡ first → changes ≡ []
+  changes_none same = to.are ∙ ap difference_changes (none_told first second to.found to.told same)
+
+-- ---- the plan that an edit asks for, of a timing side
+
+module _ {timing : Timing} {rows : RowsByKey} {side : TimingSide} {edit : PlanEdit}
+    {edits settled : List Change} (stands : Stands Plan timing rows side)
+    (plans : PlansChanges timing edit edits settled) where
+  pub edits_make : AreChangesTo (base_of side) (plan_asked edit side) edits
+  edits_make = subst (λ base. AreChangesTo base (plan_from edit base) edits) (base_is stands) plans.of_base
+
+  pub settled_make : AreChangesTo side.committed (plan_asked edit side) settled
+  settled_make = subst₂ (λ first base. AreChangesTo first (plan_from edit base) settled)
+      stands.read.1 (base_is stands) plans.of_committed
+
+  -- nothing is to be done
+  pub idle_asks : IsCommittedAlready edit side → (timing.holder ≡ None) × (settled ≡ [])
+  idle_asks idle = (stands.same_holder ∙ ap (option_map holder_of) idle.0, changes_none settled_make idle.1)
+
+  pub asks_idle : timing.holder ≡ None → settled ≡ [] → IsCommittedAlready edit side
+  asks_idle free none = (
+    free_of stands (λ held. held ≡ None) free (λ e. refl),
+    sym settled_make.make ∙ ap (after_changes side.committed) none,
+  )
+
+-- ---- the decision
 
 module _ (is_honest : Type 0) (tables : Content) (id : ℕ) (clerk : List ℕ) (edit : PlanEdit) where
   -- a reply for which no row is written
@@ -48,8 +150,8 @@ module _ (is_honest : Type 0) (tables : Content) (id : ℕ) (clerk : List ℕ) (
     pub idle_edit : (found.timing.holder ≡ None) × (settled ≡ []) → IsEditDecision is_honest tables id clerk edit Same []
     idle_edit none = told _ (λ side. refl) (λ went_on. went_on) (λ e. cc) (λ honest office stands.
         let at = found_there Plan tables office id found stands (finds honest) in
-        let idle = asks_idle at.2.timing_stands plans none.0 none.1 in
-        record { next = office; step = inr (rw at.1 ([], inl (idle, refl), refl)); stand = stands })
+        let idle = asks_idle at.stands plans none.0 none.1 in
+        record { next = office; step = inr (rw at.there (inl (idle, refl, refl))); stand = stands })
 
     edit_writes : {rows : RowsByKey} {side : TimingSide} → Stands Plan found.timing rows side → ListsDraft tables id found.timing.delta
         → (move : Move) (now : DbState) → WritesRows now found.timing.delta edits settled move.changes
@@ -68,7 +170,7 @@ module _ (is_honest : Type 0) (tables : Content) (id : ℕ) (clerk : List ℕ) (
           to.told,
           omega (arith, none_written id table.Intersection refl refl move.changes),
           omega (arith, (written id move.changes).0 ∙ count.0),
-          no_more _ _ _ _ (written id move.changes).1 (subst (λ n. draft_writes move.changes ≤ n) (changes_counted to) count.1) refl,
+          omega (arith, (written id move.changes).1, count.1, changes_counted to),
         )
 
     writes_to : {rows : RowsByKey} {side : TimingSide} → Stands Plan found.timing rows side → ListsDraft tables id found.timing.delta
@@ -94,24 +196,19 @@ module _ (is_honest : Type 0) (tables : Content) (id : ℕ) (clerk : List ℕ) (
           (finds honest) office stands in
           record {
             next = it.follows.0;
-            step = inr (rw it.there (
-              revision_steps it.i.timing edits edit.commits,
-              inr (
-                λ idle. let none = idle_asks it.here.timing_stands plans idle in busy none.0 none.1,
-                edits,
-                plans.within,
-                (edits_make it.here.timing_stands plans).make,
-                refl,
-              ),
-              all_are office id clerk it.i (taking_up it.i.timing.draft) (Edit edits)
-                  (committing edit.commits (violations_of (after_changes (base_of it.i.timing) edits))) it.there ∙ it.follows.1,
-            ));
+            step = inr (rw it.at.there (inr (
+              λ idle. let none = idle_asks it.at.stands plans idle in busy none.0 none.1,
+              edits,
+              plans.within,
+              (edits_make it.at.stands plans).make,
+              it.follows.1,
+            )));
             stand = it.follows.2;
           };
       writes = λ honest office stands.
           let at = found_there Plan tables office id found stands (finds honest) in
-          subst (λ (o : Option Intersection). EditWrites tables id edit (side_of o) (said_to decision) (rows_to id clerk found decision)) (sym at.1)
-          (writes_to at.2.timing_stands (finds honest).1.0 decision revises.writes);
+          subst (λ (o : Option Intersection). EditWrites tables id edit (side_of o) (said_to decision) (rows_to id clerk found decision)) (sym at.there)
+          (writes_to at.stands (finds honest).1.0 decision revises.writes);
       news = λ honest. news_to tables id clerk found Plan decision (finds honest).1
           (if_ok decision (λ move writes order. writes.news order (changes_in_order plans.of_committed)) revises.writes);
       made = made_to decision;

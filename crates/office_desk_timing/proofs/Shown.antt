@@ -3,16 +3,16 @@ use Rattle.std.proofs.Common.{◌≡◌, ℕ, List, [], Option, Some, None, refl
 use Rattle.std.specs.FinMap.{get, len}
 use Rattle.signal_records.specs.{TimingSet.Rows, TimingSet.after_changes, declared.state.DbState.DbState, declared.state.Holder.Holder, declared.state.Verdict.Verdict}
 use Rattle.signal_rules.specs.{Violations.violations_of, declared.violation.Violation.Violation}
-use Rattle.draft_core.specs.{DraftRows.RowsByKey, DraftRows.Stands, Transaction.Draft, Transaction.TimingSide, Transaction.holder_of, Transaction.state_of, Transaction.state_of_holder, Transaction.verdict_of, declared.timing.Timing.Timing}
-use Rattle.draft_core.specs.declared.timing.Reach.TheVariants as reach
+use Rattle.draft_core.specs.{DraftRows.RowsByKey, DraftRows.Stands, Transaction.Draft, Transaction.TimingSide, Transaction.holder_of, Transaction.state_of, Transaction.state_of_holder, Transaction.verdict_of}
 use Rattle.draft_core.proofs.{Lines.free_of, Lines.held_by, Overlaid.draft_is}
 use Rattle.office_tables_shelf.specs.{Content.Content, Shelf.CountsTiming, Shelf.ReadsIntersection, declared.rows.IntersectionRow.IntersectionRow}
 use Rattle.office_machine.specs.{Office.Office, Office.Intersection, Office.side_of, Step.answered, Step.shown, Step.state_shown, Step.draft_shown, Step.timing_shown, declared.reply.Reply.Reply}
+use Rattle.office_tables_decisions.specs.{Committed.IsCommittedSet, StandFor.StandForSound}
+use Rattle.office_desk_timing.specs.{Decisions.IsVerdictOf, Reading.Finds, declared.reading.Found.Found}
+use Rattle.office_desk_timing.proofs.{IntersectionTable.not_there, IntersectionTable.sound_there, IntersectionTable.there, ReadBack.committed_read, ReadBack.found_there, ListedIntersections.committed_counted}
+use Rattle.draft_core.specs.declared.timing.Reach.TheVariants as reach
 use Rattle.office_machine.specs.declared.command.Command.TheVariants as command
 use Rattle.office_machine.specs.declared.reply.Reply.TheVariants as reply
-use Rattle.office_tables_decisions.specs.{Committed.IsCommittedSet, StandFor.StandForSound, StandFor.row_of}
-use Rattle.office_desk_timing.specs.{Decisions.IsVerdictOf, Reading.Finds, declared.reading.Found.Found}
-use Rattle.office_desk_timing.proofs.{IntersectionTable.not_there, IntersectionTable.sound_there, IntersectionTable.there, ReadBack.committed_read, ReadBack.found_there, TimingCount.committed_counted}
 
 -- a query shows what there is
 shows : (office : Office) (id : ℕ) (show : Intersection → Reply) (said : Reply) (i : Intersection) → get office.intersections id ≡ Some i → show i ≡ said
@@ -65,9 +65,9 @@ pub verdict_found : (tables : Content) (id : ℕ) (row : IntersectionRow) (found
     → IsVerdictOf tables id row verdict
 verdict_found tables id row found verdict finds reads office i stands there is =
     let at = found_there reach.Plan tables office id found stands finds in
-    let same : at.0 ≡ i = let f : Some at.0 ≡ Some i = sym at.1 ∙ there in cc in
+    let same : at.i ≡ i = let f : Some at.i ≡ Some i = sym at.there ∙ there in cc in
     subst (λ (j : Intersection). verdict ≡ verdict_of j.timing.draft) same
-    (reads _ at.0.timing at.2.timing_stands (sound_there tables office id stands at.0 at.1).1.no_violations)
+    (reads _ at.i.timing at.stands (sound_there tables office id stands at.i at.there).1.no_violations)
 
 pub no_verdict : (tables : Content) (id : ℕ) (row : IntersectionRow) (verdict : Verdict)
     → Finds reach.Plan tables id None → IsVerdictOf tables id row verdict
@@ -92,8 +92,8 @@ module _ (tables : Content) (office : Office) (id : ℕ) (found : Found) (stands
   pub no_draft_shows : found.timing.holder ≡ None → answered office (command.Draft id) ≡ (draft_shown None, office)
   no_draft_shows free =
       let at = found_there reach.Plan tables office id found stands finds in
-      shows office id (λ j. draft_shown j.timing.draft) _ at.0 at.1
-      (free_of at.2.timing_stands (λ held. draft_shown held ≡ draft_shown None) free (λ e. refl))
+      shows office id (λ j. draft_shown j.timing.draft) _ at.i at.there
+      (free_of at.stands (λ held. draft_shown held ≡ draft_shown None) free (λ e. refl))
 
   -- the draft is shown whole, with what it breaks
   pub draft_shows : (holder : Holder) (rows : Rows) (violations : List Violation) → found.timing.holder ≡ Some holder
@@ -101,7 +101,7 @@ module _ (tables : Content) (office : Office) (id : ℕ) (found : Found) (stands
       → answered office (command.Draft id) ≡ (reply.Draft (record { owner = holder.owner; rows = rows; violations = violations }), office)
   draft_shows holder rows violations held made judged =
       let at = found_there reach.Plan tables office id found stands finds in
-      shows office id (λ j. draft_shown j.timing.draft) _ at.0 at.1
-      (held_by at.2.timing_stands holder (λ d. draft_shown d ≡ reply.Draft (record { owner = holder.owner; rows = rows; violations = violations })) held (λ draft there same.
-      let is : draft.set ≡ rows = sym (made ∙ draft_is at.2.timing_stands draft there) in
+      shows office id (λ j. draft_shown j.timing.draft) _ at.i at.there
+      (held_by at.stands holder (λ d. draft_shown d ≡ reply.Draft (record { owner = holder.owner; rows = rows; violations = violations })) held (λ draft there same.
+      let is : draft.set ≡ rows = sym (made ∙ draft_is at.stands draft there) in
       (λ k. reply.Draft (record { owner = (same k).owner; rows = is k; violations = (ap violations_of is ∙ sym judged) k }))))

@@ -1,22 +1,19 @@
 -- The tables that stand for an office: that each row of a plan is a record, and what another intersection in its place makes of them.
-use Rattle.std.proofs.Common.{◌≡◌, ℕ, pos, List, Option, Some, None, refl, ap, sym, subst, ◌∙◌, true, false, inl, inr, IfSome, option_map, arith}
+use Rattle.std.proofs.Common.{◌≡◌, ◌≢◌, ℕ, pos, List, Option, Some, None, refl, ap, sym, subst, ◌∙◌, true, false, inl, inr, IfSome, option_map, arith}
 use Rattle.std.proofs.{Math.Path.subst₂, lemmas.Bool.Decides.nat_tests, lemmas.Bool.cond_both}
 use Rattle.std.specs.{Cmp.nat_cmp_total, Int.IsInRange, Ordering.nat_cmp, Ordering.eq_by_cmp}
 use Rattle.std.specs.FinMap.{get, insert, get-insert, nat_cmp-IsAntisymmetric}
 use Rattle.cabinet_core.{proofs.Puts.all_put, specs.Register.Register}
-use Rattle.signal_records.specs.{Row.key_of, Within.IsRowWithin, Within.current_limits}
-use Rattle.signal_records.specs.declared.{key.Key.Key, record.Row.Row, record.Change.TheVariants.Put, record.Change.TheVariants.Remove}
+use Rattle.signal_records.specs.{Row.key_of, Within.IsKeyWithin, Within.IsRowWithin, Within.current_limits, declared.key.Key.Key, declared.record.Row.Row, declared.record.Change.TheVariants.Put, declared.record.Change.TheVariants.Remove}
 use Rattle.draft_core.specs.{DraftRows.RowsByKey, DraftRows.Said, DraftRows.silent, DraftRows.leaves, DraftRows.removes, Transaction.TimingSide, declared.timing.Reach.Reach}
-use Rattle.draft_core.specs.declared.timing.Reach.TheVariants as reach
-use Rattle.office_tables_shelf.specs.Damage.{HasDamagedTiming, HasDamagedDraft}
-use Rattle.office_tables_shelf.specs.{Cells.Cell, Cells.TableRows, Cells.number, Content.Content, RegisterStands.RegisterStands, Rows.intersection_key, Rows.timing_key, Rows.timing_columns, Rows.left_columns, Shelf.is_of}
+use Rattle.office_tables_shelf.specs.{Damage.HasDamagedTiming, Damage.HasDamagedDraft, Cells.Cell, Cells.TableRows, Cells.number, Content.Content, RegisterStands.RegisterStands, Rows.intersection_key, Rows.timing_key, Rows.timing_columns, Rows.left_columns, Shelf.is_of}
 use Rattle.office_tables_shelf.proofs.{CellLemmas.cell_exact, CellLemmas.tied, KeyCells.intersection_order, StoredMaps.insert_stored}
 use Rattle.office_machine.specs.{Office.AreRecords, Office.Intersection, Office.IsSound, Office.IsSoundIntersection, Office.Office, Office.side_at, Office.side_of, Step.with_intersection}
 use Rattle.office_tables_decisions.specs.{Damage.HasDamageIn, StandFor.DraftRowStands, StandFor.HasTimingKeys, StandFor.IsSaid, StandFor.StandFor, StandFor.StandForSound, StandFor.columns_of, StandFor.said_columns}
 use Rattle.office_desk_timing.specs.Reading.{drafts_at}
-use Rattle.office_desk_timing.proofs.EmptySet.{no_records}
-use Rattle.office_desk_timing.proofs.IntersectionTable.{no_damaged_intersection}
+use Rattle.office_desk_timing.proofs.{EmptySet.no_records, IntersectionTable.no_damaged_intersection}
 pub use Rattle.office_desk_timing.proofs.IntersectionTable.{row_read}
+use Rattle.draft_core.specs.declared.timing.Reach.TheVariants as reach
 
 -- ---- a table of rows by the keys of an intersection
 
@@ -62,48 +59,44 @@ module _ (tables : Content) (office : Office) (id : ℕ) (stands : StandForSound
     within = λ key. (stands.stand.draft id key).within;
   }
 
+-- the first cell of a key tells the intersection
+pub of_key : (id q : ℕ) (key : Key) → is_of id (timing_key q key) ≡ true → q ≡ id
+of_key id q key of = let same : number (pos id) ≡ number (pos q) = cell_exact _ _ (tied _ of) in cc
+
 -- a row that stands under cells which begin with the number of an intersection stands under one of its keys
 pub own : (rows : TableRows) (id : ℕ) (cells columns : List Cell) → HasTimingKeys rows → is_of id cells ≡ true → get rows cells ≡ Some columns
     → (key : Key) × (cells ≡ timing_key id key)
 own rows id cells columns keys of stored =
     let at = keys cells columns stored in
-    let begins : is_of id (timing_key at.0 at.1) ≡ true = ap (is_of id) (sym at.2) ∙ of in
-    let numbers : number (pos id) ≡ number (pos at.0) = cell_exact _ _ (tied _ begins) in
-    let same : id ≡ at.0 = cc in
-    (at.1, at.2 ∙ ap (λ n. timing_key n at.1) (sym same))
+    (at.1, at.2 ∙ ap (λ n. timing_key n at.1) (of_key id at.0 at.1 (ap (is_of id) (sym at.2) ∙ of)))
 
 -- ---- each row is a record
 
 undamaged : {rows : TableRows} {id : ℕ} {said : RowsByKey} → Says rows id said → (cells columns : List Cell) → is_of id cells ≡ true → get rows cells ≡ Some columns
-    → ((key : Key) → cells ≡ timing_key id key → IsSaid key (said key) → Some columns ≡ said_columns (said key) → ⊥) → ⊥
-undamaged {rows = rows} {id = id} says cells columns of stored never =
+    → ((row : Row) → IsRowWithin current_limits row → cells ≡ timing_key id (key_of row) → columns ≢ timing_columns row)
+    → ((key : Key) → said key ≡ removes → IsKeyWithin current_limits key → cells ≡ timing_key id key → columns ≢ left_columns None) → ⊥
+undamaged {rows = rows} {id = id} {said = said} says cells columns of stored no_row no_removal =
     let at = own rows id cells columns says.keys of stored in
-    never at.0 at.1 (says.within at.0) (sym stored ∙ ap (get rows) at.1 ∙ says.stored at.0)
+    go at.0 at.1 (said at.0) refl (says.within at.0) (sym stored ∙ ap (get rows) at.1 ∙ says.stored at.0)
+  where
+    go : (key : Key) → cells ≡ timing_key id key → (s : Said) → said key ≡ s → IsSaid key s → Some columns ≡ said_columns s → ⊥
+    go key here silent is within same = cc
+    go key here removes is within same = no_removal key is within here (let e : columns ≡ left_columns None = cc in e)
+    go key here (leaves row) is within same = no_row row within.0 (here ∙ ap (timing_key id) (sym within.1)) (let e : columns ≡ timing_columns row = cc in e)
+
+never_removed : (row : Option Row) → committed_said row ≡ removes → ⊥
+never_removed None e = cc
+never_removed (Some row) e = cc
 
 pub no_damaged_timing : (tables : Content) (id : ℕ) → HasDamagedTiming tables id → (office : Office) → StandForSound tables office → ⊥
 no_damaged_timing tables id damaged office stands =
-    undamaged (timing_says tables office id stands) damaged.key damaged.columns damaged.of damaged.stored
-    (λ key here. no_row key here (get (side_at office id).committed key))
-  where
-    no_row : (key : Key) → damaged.key ≡ timing_key id key → (row : Option Row) → IsSaid key (committed_said row) → Some damaged.columns ≡ said_columns (committed_said row) → ⊥
-    no_row key here None within is = cc
-    no_row key here (Some row) within is =
-        let same : damaged.columns ≡ timing_columns row = cc in
-        damaged.no_row row within.0 (here ∙ ap (timing_key id) (sym within.1)) same
+    undamaged (timing_says tables office id stands) damaged.key damaged.columns damaged.of damaged.stored damaged.no_row
+    (λ key is. absurd (never_removed (get (side_at office id).committed key) is))
 
 no_damaged_draft : (tables : Content) (id : ℕ) → HasDamagedDraft tables id → (office : Office) → StandForSound tables office → ⊥
 no_damaged_draft tables id damaged office stands =
     undamaged (draft_says tables office id stands) damaged.key damaged.columns damaged.of damaged.stored
-    (λ key here. no_row key here (drafts_at stands.stand id key))
-  where
-    no_row : (key : Key) → damaged.key ≡ timing_key id key → (said : Said) → IsSaid key said → Some damaged.columns ≡ said_columns said → ⊥
-    no_row key here silent within is = cc
-    no_row key here removes within is =
-        let same : damaged.columns ≡ left_columns None = cc in
-        damaged.no_row (Remove key) within here same
-    no_row key here (leaves row) within is =
-        let same : damaged.columns ≡ left_columns (Some row) = cc in
-        damaged.no_row (Put row) within.0 (here ∙ ap (timing_key id) (sym within.1)) same
+    (λ row. damaged.no_row (Put row)) (λ key is. damaged.no_row (Remove key))
 
 -- where the tables stand for a sound office, each row of an intersection is a record
 pub no_damage : (reach : Reach) (tables : Content) (id : ℕ) → HasDamageIn reach tables id
@@ -141,6 +134,9 @@ side_after office id i q =
 pub record Spares (id : ℕ) (old new : TableRows) : Type 0 where
   pub others : (q : ℕ) → (q ≡ id → ⊥) → (key : Key) → get new (timing_key q key) ≡ get old (timing_key q key)
   pub keys : HasTimingKeys old → HasTimingKeys new
+
+pub unchanged : (id : ℕ) (rows : TableRows) → Spares id rows rows
+unchanged id rows = record { others = λ q ne key. refl; keys = λ has. has }
 
 -- all but the rows of one intersection stays
 pub record Stays (id : ℕ) (old new : Content) : Type 0 where

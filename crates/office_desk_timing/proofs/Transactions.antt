@@ -1,5 +1,5 @@
 -- What a command of the transaction answers, on what was found, is a step of the office.
-use Rattle.std.proofs.Common.{◌≡◌, ◌≢◌, ◌+◌, ◌≤◌, ℕ, Bool, true, false, List, [], ◌∷◌, length, Option, Some, None, Result, Ok, Err, refl, ap, sym, subst, ◌∙◌, inl, inr, subst₂, arith}
+use Rattle.std.proofs.Common.{◌≡◌, ◌≢◌, ◌≤◌, ℕ, Bool, true, false, List, [], ◌∷◌, length, Option, Some, None, Result, Ok, Err, refl, ap, sym, subst, ◌∙◌, inl, inr, subst₂, arith}
 use Rattle.std.proofs.lemmas.List.{length-map}
 use Rattle.std.specs.{FinMap.get, Prelude.IfOk, Prelude.if◌then◌else◌, Prelude.not, Result.result_err, Str.bytes_eq}
 use Rattle.signal_values.specs.Words.{AreWords}
@@ -8,18 +8,18 @@ use Rattle.signal_rules.specs.Violations.{violations_of}
 use Rattle.draft_core.specs.Steps.{first_refusal, reach_of, IsLater, StepWrites, RefusesFirst, ReliesOn, Takes, asked_changes, most_committed, most_drafted}
 use Rattle.draft_core.specs.{DraftRows.RowsByKey, DraftRows.Stands, Moves.Follows, Moves.drafted_in, Moves.timing_writes, Moves.draft_writes, News.AddsOnlyNew, Transaction.TimingSide, Transaction.is_stage, Transaction.refused_by, Transaction.table_line, Within.AreChangesWithin, declared.refusal.DraftRefusal.DraftRefusal, declared.step.Step.Step, declared.timing.Move.Move, declared.timing.Reach.Reach, declared.timing.TimingChange.TimingChange, declared.timing.TimingChange.TheVariants.Committed}
 use Rattle.draft_core.specs.declared.step.Step.TheVariants.{Begin, Edit, Check, Commit, Abandon}
-use Rattle.draft_core.specs.declared.refusal.DraftRefusal.TheVariants as draft
 use Rattle.draft_core.proofs.OnlyChanges.{among_within}
 use Rattle.office_tables_shelf.specs.{Change.AddNew, Change.changed_by, Content.Content, Shelf.ListsDraft, Shelf.rows_of, Counts.is_same_table, Counts.writes_in, declared.rows.RowChange.RowChange, declared.rows.Table.Table, declared.shelf.ShelfFault.ShelfFault}
-use Rattle.office_tables_shelf.specs.declared.rows.Table.TheVariants as table
-use Rattle.office_tables_shelf.specs.declared.shelf.ShelfFault.TheVariants as fault
 use Rattle.office_machine.specs.{Office.Office, Office.Intersection, Step.answered, Step.transacted, Step.moved, Step.refusal_of_draft, Step.with_intersection, declared.command.Command.Command, declared.reply.Reply.Reply, declared.reply.Reply.TheVariants.Moved, declared.reply.Reply.TheVariants.Refused}
-use Rattle.office_machine.specs.declared.refusal.Refusal.TheVariants as refusal
 use Rattle.office_tables_decisions.specs.{RecordBounds.IsOneOf, Asking.asking_command, Answers.Answers, Changes.IsQueryCommand, Changes.IsRefused, Changes.most_writes, Named.RefusesBy, Named.number_of, Named.numbers_of, Deciding.Decides, Deciding.IsDecision, StandFor.StandForSound, declared.decided.Decided.Decided}
 use Rattle.office_tables_decisions.proofs.Decisions.{refuses_so, unknown_decides}
 use Rattle.office_desk_timing.specs.Moving.{TellsDecision, moved_row, row_changes_of, rows_to, said_to}
 use Rattle.office_desk_timing.specs.{Reading.Finds, Reading.ReadsPlan, Reading.drafts_at, declared.reading.Found.Found}
-use Rattle.office_desk_timing.proofs.{AddedRows.move_news, IntersectionTable.not_there, IntersectionTable.sound_there, Keeps.IsSoundSide, Keeps.line_keeps, Keeps.side_sound, Keeps.sound_intersection, Moved.move_stands, Moved.with_timing_side, ReadBack.FoundStands, ReadBack.found_there, Stands.sound_with}
+use Rattle.office_desk_timing.proofs.{IntersectionTable.not_there, IntersectionTable.sound_there, Keeps.IsSoundSide, Keeps.line_keeps, Keeps.side_sound, Keeps.sound_intersection, Moved.move_news, Moved.move_stands, Moved.with_timing_side, ReadBack.FoundThere, ReadBack.found_there, Stands.sound_with}
+use Rattle.draft_core.specs.declared.refusal.DraftRefusal.TheVariants as draft
+use Rattle.office_tables_shelf.specs.declared.rows.Table.TheVariants as table
+use Rattle.office_tables_shelf.specs.declared.shelf.ShelfFault.TheVariants as fault
+use Rattle.office_machine.specs.declared.refusal.Refusal.TheVariants as refusal
 
 -- what follows from what is so of a move
 pub if_ok : {A E : Type 0} {P Q : A → Type 0} (r : Result A E) → ((x : A) → P x → Q x) → IfOk r P → IfOk r Q
@@ -32,37 +32,34 @@ by_line : (step : Step) (office : Office) (id : ℕ) (clerk : List ℕ) → answ
 by_line Begin office id clerk = refl
 by_line _ office id clerk = refl
 
-pub answered_at : (step : Step) (office : Office) (id : ℕ) (clerk : List ℕ) (i : Intersection) (l : Result TimingSide DraftRefusal) → get office.intersections id ≡ Some i → table_line step clerk i.timing ≡ l
-    → answered office (asking_command id clerk step) ≡ moved office id i l
-answered_at step office id clerk i l there line = by_line step office id clerk ∙ ap (transacted office id (table_line step clerk)) there ∙ ap (moved office id i) line
+-- what comes of a line of the table: its reply, and the office, for which the tables then stand
+abbrev pub Follow : Content → Office → ℕ → List ℕ → Found → Result Move DraftRefusal → Intersection → Result TimingSide DraftRefusal → Type 0
+Follow tables office id clerk found decision i l =
+    (next : Office) × (moved office id i l ≡ (said_to decision, next)) × StandForSound (changed_by tables (rows_to id clerk found decision)) next
 
--- of an intersection that is there
-followed : {reach : Reach} (tables : Content) (office : Office) (id : ℕ) (clerk : List ℕ) (i : Intersection) (found : Found) (stands : StandForSound tables office)
-    → get office.intersections id ≡ Some i → FoundStands reach (drafts_at stands.stand id) i found → (decision : Result Move DraftRefusal) (l : Result TimingSide DraftRefusal)
+followed : {reach : Reach} (tables : Content) (office : Office) (id : ℕ) (clerk : List ℕ) (found : Found) (stands : StandForSound tables office)
+    (at : FoundThere reach tables id found office stands) (decision : Result Move DraftRefusal) (l : Result TimingSide DraftRefusal)
     → decision ≢ Err draft.NoMemory → IfOk decision (λ move. AreChangesWithin (drafted_in move.changes)) → ((next : TimingSide) → l ≡ Ok next → IsSoundSide next)
-    → Follows (drafts_at stands.stand id) i.timing clerk decision l
-    → (next : Office) × (moved office id i l ≡ (said_to decision, next)) × StandForSound (changed_by tables (rows_to id clerk found decision)) next
-followed tables office id clerk i found stands there here (Ok move) (Ok side) told drafts keeps makes =
-    let next = with_intersection office id (with_timing_side i side) in
-    let sound = sound_there tables office id stands i there in (
+    → Follows (drafts_at stands.stand id) at.i.timing clerk decision l → Follow tables office id clerk found decision at.i l
+followed tables office id clerk found stands at (Ok move) (Ok side) told drafts keeps makes =
+    let next = with_intersection office id (with_timing_side at.i side) in
+    let sound = sound_there tables office id stands at.i at.there in (
       next,
       λ k. (Moved (sym makes.same_revision k) (sym makes.same_state k) (sym makes.same_verdict k), next),
       record {
-        stand = move_stands tables office id i found clerk move side stands.stand there here drafts makes;
-        sound = sound_with office id (with_timing_side i side) sound.0 stands.sound (sound_intersection i side sound.1 (keeps side refl));
+        stand = move_stands tables office id found clerk move side stands at drafts makes;
+        sound = sound_with office id (with_timing_side at.i side) sound.0 stands.sound (sound_intersection at.i side sound.1 (keeps side refl));
       },
     )
-followed tables office id clerk i found stands there here (Ok move) (Err why) told drafts keeps never = absurd never
-followed tables office id clerk i found stands there here (Err why) l told drafts keeps (inl memory) = absurd (told (ap Err memory))
-followed tables office id clerk i found stands there here (Err why) l told drafts keeps (inr same) = (office, ap (moved office id i) same, stands)
+followed tables office id clerk found stands at (Ok move) (Err why) told drafts keeps never = absurd never
+followed tables office id clerk found stands at (Err why) l told drafts keeps (inl memory) = absurd (told (ap Err memory))
+followed tables office id clerk found stands at (Err why) l told drafts keeps (inr same) = (office, ap (moved office id at.i) same, stands)
 
--- what comes of a line of the table: its reply, and the office, for which the tables then stand
+-- on what was found, by lines that keep a timing side sound and that the decision follows
 pub record Comes (reach : Reach) (tables : Content) (id : ℕ) (clerk : List ℕ) (found : Found) (decision : Result Move DraftRefusal) (line : TimingSide → Result TimingSide DraftRefusal)
     (office : Office) (stands : StandForSound tables office) : Type 0 where
-  pub i : Intersection
-  pub there : get office.intersections id ≡ Some i
-  pub here : FoundStands reach (drafts_at stands.stand id) i found
-  pub follows : (next : Office) × (moved office id i (line i.timing) ≡ (said_to decision, next)) × StandForSound (changed_by tables (rows_to id clerk found decision)) next
+  pub at : FoundThere reach tables id found office stands
+  pub follows : Follow tables office id clerk found decision at.i (line at.i.timing)
 
 pub comes : (reach : Reach) (tables : Content) (id : ℕ) (clerk : List ℕ) (found : Found) (decision : Result Move DraftRefusal) (line : TimingSide → Result TimingSide DraftRefusal)
     → decision ≢ Err draft.NoMemory → IfOk decision (λ move. AreChangesWithin (drafted_in move.changes))
@@ -71,13 +68,11 @@ pub comes : (reach : Reach) (tables : Content) (id : ℕ) (clerk : List ℕ) (fo
     → Finds reach tables id (Some found) → (office : Office) (stands : StandForSound tables office) → Comes reach tables id clerk found decision line office stands
 comes reach tables id clerk found decision line told drafts keeps follows finds office stands =
     let at = found_there reach tables office id found stands finds in
-    let sound = (sound_there tables office id stands at.0 at.1).1 in
+    let sound = (sound_there tables office id stands at.i at.there).1 in
     record {
-      i = at.0;
-      there = at.1;
-      here = at.2;
-      follows = followed tables office id clerk at.0 found stands at.1 at.2 decision (line at.0.timing) told drafts
-          (λ next. keeps at.0.timing next (side_sound at.0 sound)) (follows (drafts_at stands.stand id) at.0.timing at.2.timing_stands sound.no_violations);
+      at = at;
+      follows = followed tables office id clerk found stands at decision (line at.i.timing) told drafts
+          (λ next. keeps at.i.timing next (side_sound at.i sound)) (follows (drafts_at stands.stand id) at.i.timing at.stands sound.no_violations);
     }
 
 -- ---- replies
@@ -125,24 +120,17 @@ bounds tables id clerk found Commit reads = let many = listed_many tables id fou
 bounds tables id clerk found Abandon reads = (refl, refl, listed_many tables id found.timing.delta reads.0)
 bounds tables id clerk found _ reads = (refl, refl, refl)
 
-pub no_more : (written n most m : ℕ) → written ≡ n → n ≤ m → most ≡ m → 0 + written ≤ most
-no_more written n most m same bound is = omega arith
-
-one_more : (written most : ℕ) → written ≡ 0 → most ≡ 1 → 1 + written ≤ most
-one_more written most none is = omega arith
-
 -- the rows of an answer are within the command's bounds
 few_to : (tables : Content) (id : ℕ) (clerk : List ℕ) (step : Step) (found : Found) (decision : Result Move DraftRefusal) (other : Table)
     → ReadsPlan (reach_of step) tables id found.timing.committed found.timing.delta → IfOk decision (StepWrites step found.timing)
     → writes_in other (rows_to id clerk found decision) ≤ most_writes tables (asking_command id clerk step) other
 few_to tables id clerk step found (Ok move) table.Intersection reads writes =
-    one_more _ _ (none_written id table.Intersection refl refl move.changes) (bounds tables id clerk found step reads).0
+    omega (arith, (bounds tables id clerk found step reads).0, none_written id table.Intersection refl refl move.changes)
 few_to tables id clerk step found (Ok move) table.Timing reads writes =
-    no_more _ _ _ _ (written id move.changes).0 writes.committed (bounds tables id clerk found step reads).1
+    omega (arith, (bounds tables id clerk found step reads).1, (written id move.changes).0, writes.committed)
 few_to tables id clerk step found (Ok move) table.Draft reads writes =
-    no_more _ _ _ _ (written id move.changes).1 writes.drafted (bounds tables id clerk found step reads).2
-few_to tables id clerk step found (Ok move) other reads writes =
-    no_more _ 0 _ _ (none_written id other refl refl move.changes) (omega arith) refl
+    omega (arith, (bounds tables id clerk found step reads).2, (written id move.changes).1, writes.drafted)
+few_to tables id clerk step found (Ok move) other reads writes = omega (arith, none_written id other refl refl move.changes)
 few_to tables id clerk step found (Err why) other reads writes = omega arith
 
 -- ---- refusals
@@ -214,7 +202,7 @@ module _ (is_honest : Type 0) (tables : Content) (id : ℕ) (clerk : List ℕ) (
         (λ rows side at none. takes.line rows side at (relied_on step side none)) (finds honest) office stands in
         subst₂ (λ (reply : Reply) (rows : List RowChange). Answers office command reply (changed_by tables rows)) (sym tells.1) (sym tells.2) (record {
           next = it.follows.0;
-          step = inr (answered_at step office id clerk it.i _ it.there refl ∙ it.follows.1);
+          step = inr (by_line step office id clerk ∙ ap (transacted office id (table_line step clerk)) it.at.there ∙ it.follows.1);
           stand = it.follows.2;
         });
     writes = λ honest other. subst (λ (rows : List RowChange). writes_in other rows ≤ most_writes tables command other) (sym tells.2)

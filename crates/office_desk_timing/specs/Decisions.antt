@@ -3,10 +3,8 @@ use Rattle.std.specs.Prelude.{◌≡◌, ℕ, Some}
 use Rattle.std.specs.FinMap.{get}
 use Rattle.signal_records.specs.declared.state.Verdict.{Verdict}
 use Rattle.draft_core.specs.Transaction.{verdict_of}
-use Rattle.office_tables_shelf.specs.{Content.Content, declared.rows.IntersectionRow.IntersectionRow, declared.shelf.ShelfFault.ShelfFault}
-use Rattle.office_tables_shelf.specs.declared.shelf.ShelfFault.TheVariants.{NoMemory, Store, Damaged as StoredDamaged}
-use Rattle.office_machine.specs.{Office.Intersection, Office.Office, declared.refusal.Refusal.Refusal}
-use Rattle.office_machine.specs.declared.refusal.Refusal.TheVariants.{Unavailable, Damaged}
+use Rattle.office_tables_shelf.specs.{Content.Content, declared.rows.IntersectionRow.IntersectionRow, declared.shelf.ShelfFault.ShelfFault, declared.shelf.ShelfFault.TheVariants.NoMemory, declared.shelf.ShelfFault.TheVariants.Store, declared.shelf.ShelfFault.TheVariants.Damaged as StoredDamaged}
+use Rattle.office_machine.specs.{Office.Intersection, Office.Office, declared.refusal.Refusal.Refusal, declared.refusal.Refusal.TheVariants.Unavailable, declared.refusal.Refusal.TheVariants.Damaged}
 use Rattle.office_tables_decisions.specs.StandFor.{StandForSound, row_of}
 
 -- how a fault of the shelf is answered

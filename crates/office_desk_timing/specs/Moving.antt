@@ -5,10 +5,10 @@ use Rattle.draft_core.specs.{Moves.next_holder, declared.refusal.DraftRefusal.Dr
 use Rattle.draft_core.specs.declared.timing.TimingChange.TheVariants.{CommittedNew, Committed, DraftedNew, Drafted, DraftGone, DraftDropped}
 use Rattle.office_tables_shelf.specs.declared.{rows.IntersectionRow.IntersectionRow, rows.RowChange.RowChange, shelf.ShelfFault.ShelfFault}
 use Rattle.office_tables_shelf.specs.declared.rows.RowChange.TheVariants.{PutIntersection, AddTiming, PutTiming, RemoveTiming, AddDraft, PutDraft, RemoveDraft, DropDraft}
-use Rattle.office_tables_shelf.specs.declared.shelf.ShelfFault.TheVariants as fault
 use Rattle.office_machine.specs.{Step.refusal_of_draft, declared.reply.Reply.Reply, declared.reply.Reply.TheVariants.Moved, declared.reply.Reply.TheVariants.Refused}
 use Rattle.office_tables_decisions.specs.declared.decided.Decided.{Decided}
 use Rattle.office_desk_timing.specs.declared.reading.Found.{Found}
+use Rattle.office_tables_shelf.specs.declared.shelf.ShelfFault.TheVariants as fault
 
 -- a change of the committed rows or of the draft of an intersection's timing, as a change of the rows of the tables
 abbrev pub row_change_of : ℕ → TimingChange → RowChange

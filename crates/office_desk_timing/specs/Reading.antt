@@ -1,12 +1,12 @@
 -- What is read of an intersection and its timing side (its committed timing and its draft).
-use Rattle.std.specs.Prelude.{◌≡◌, ℕ, List, Option, Some, None}
+use Rattle.std.specs.Prelude.{ℕ, List, Option, Some, None}
 use Rattle.signal_records.specs.{TimingSet.Rows, declared.record.Change.Change}
 use Rattle.draft_core.specs.{DraftRows.RowsByKey, Within.AreChangesWithin, declared.timing.Reach.Reach}
-use Rattle.draft_core.specs.declared.timing.Reach.TheVariants as reach
 use Rattle.office_tables_shelf.specs.{Content.Content, Shelf.ListsDraft, Shelf.ReadsIntersection, declared.rows.IntersectionRow.IntersectionRow}
 use Rattle.office_machine.specs.Office.{Office}
 use Rattle.office_tables_decisions.specs.{Committed.IsCommittedSet, StandFor.StandFor}
 use Rattle.office_desk_timing.specs.declared.reading.Found.{Found}
+use Rattle.draft_core.specs.declared.timing.Reach.TheVariants as reach
 
 -- the tables hold this committed set and these draft rows of an intersection, as far as a step with this
 -- reach reads them: both by Plan, only the draft rows by Drafts, none by Row
