@@ -82,18 +82,11 @@ row_there tables id row reads = subst (λ (o : Option (List Cell)). IsSome o) (s
 abbrev pub Entry : Type 0
 Entry = ℕ × Intersection
 
--- the cells of an intersection's row
-abbrev cells : Entry → List Cell × List Cell
-cells e = (intersection_key e.0, columns_of e.1)
-
 -- the row of an intersection, beside its number
 abbrev pub of_entry : Entry → ℕ × IntersectionRow
 of_entry e = (e.0, row_of e.1)
 
-abbrev read_cells : ℕ × IntersectionRow → List Cell × List Cell
-read_cells e = (intersection_key e.0, intersection_columns e.1)
-
-one_read : (a : ℕ × IntersectionRow) (e : Entry) → read_cells a ≡ cells e → a ≡ of_entry e
+one_read : (a : ℕ × IntersectionRow) (e : Entry) → ◌≡◌ {A = List Cell × List Cell} (intersection_key a.0, intersection_columns a.1) (intersection_key e.0, columns_of e.1) → a ≡ of_entry e
 one_read a e same =
     let keys : intersection_key a.0 ≡ intersection_key e.0 = ap (λ (p : List Cell × List Cell). p.0) same in
     let columns : intersection_columns a.1 ≡ intersection_columns (row_of e.1) = ap (λ (p : List Cell × List Cell). p.1) same in
@@ -103,7 +96,7 @@ one_read a e same =
 -- the rows that are read are those of the intersections
 pub rows_read : (tables : Content) (office : Office) → StandFor tables office → (rows : List (ℕ × IntersectionRow)) → ListsIntersections tables rows → rows ≡ map of_entry (entries office.intersections)
 rows_read tables office stand rows lists =
-    rows_tell read_cells cells of_entry one_read rows (entries office.intersections) (lists
+    rows_tell _ _ of_entry one_read rows (entries office.intersections) (lists
     ∙ ap (λ (rows : TableRows). entries rows) stand.intersection
     ∙ stored_entries nat_cmp_total intersection_key columns_of intersection_order office.intersections)
 

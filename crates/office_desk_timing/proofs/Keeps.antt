@@ -15,16 +15,15 @@ use Rattle.draft_core.specs.declared.step.Step.TheVariants as step
 
 -- ---- records after changes
 
-overlaid_record : (key : Key) (committed : Option Row) (said : Said) → IfSome committed (λ row. IsRowWithin current_limits row × (key_of row ≡ key)) → IsSaid key said
-    → IfSome (overlaid_row committed said) (λ row. IsRowWithin current_limits row × (key_of row ≡ key))
-overlaid_record key committed silent record_there within = record_there
-overlaid_record key committed (leaves row) record_there within = within
-overlaid_record key committed removes record_there within = tt
-
 records_after : (changes : List Change) (set : Rows) → AreRecords set → AreChangesWithin changes → AreRecords (after_changes set changes)
 records_after changes set records within key =
-    subst (λ o. IfSome o (λ row. IsRowWithin current_limits row × (key_of row ≡ key))) (sym (get-after_changes changes set key))
-    (overlaid_record key (get set key) (row_at changes key) (records key) (row_at_within changes key within))
+    let IsRecord = λ (row : Row). IsRowWithin current_limits row × (key_of row ≡ key) in
+    subst (λ o. IfSome o IsRecord) (sym (get-after_changes changes set key))
+    (elim (row_at changes key) as (λ said. IsSaid key said → IfSome (overlaid_row (get set key) said) IsRecord) [
+      | silent ↦ λ said. records key
+      | leaves row ↦ λ said. said
+      | removes ↦ λ said. tt
+    ] (row_at_within changes key within))
 
 -- ---- sound timing sides
 
@@ -33,9 +32,6 @@ pub record IsSoundSide (side : TimingSide) : Type 0 where
   pub rows : AreRecords side.committed
   pub no_violations : violations_of side.committed ≡ []
   pub draft : IfSome side.draft IsSoundDraft
-
-pub side_sound : (i : Intersection) → IsSoundIntersection i → IsSoundSide i.timing
-side_sound i sound = record { revision = sound.revision; rows = sound.rows; no_violations = sound.no_violations; draft = sound.draft }
 
 pub sound_intersection : (i : Intersection) (next : TimingSide) → IsSoundIntersection i → IsSoundSide next → IsSoundIntersection (record i { timing = next })
 sound_intersection i next sound side = record {

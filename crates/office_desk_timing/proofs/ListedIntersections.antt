@@ -36,18 +36,14 @@ module _ (tables : Content) (office : Office) (id : ℕ) (stands : StandForSound
       ∙ sym (get_stored key_total (timing_key id) timing_columns (timing_order id) committed key))
 
   alike : (q : List Cell) → Alike q
-  alike q = in_set (get stored q) refl
+  alike q = go (get stored q) (is_of id q) (get tables.timing q) refl refl refl
     where
-      in_table : (b : Bool) (o : Option (List Cell)) → is_of id q ≡ b → get tables.timing q ≡ o → get stored q ≡ None → Alike q
-      in_table true (Some columns) of is none = let mine = own tables.timing id q columns stands.stand.timing_keys of is in at_key q mine.0 mine.1
-      in_table true None of is none = found q ∙ (λ i. cond (of i) (is i) None) ∙ sym none
-      in_table false o of is none = found q ∙ ap (λ b. cond b (get tables.timing q) None) of ∙ sym none
-
-      in_set : (o : Option (List Cell)) → get stored q ≡ o → Alike q
-      in_set None is = in_table (is_of id q) (get tables.timing q) refl refl is
-      in_set (Some columns) is =
+      go : (o : Option (List Cell)) (b : Bool) (p : Option (List Cell)) → get stored q ≡ o → is_of id q ≡ b → get tables.timing q ≡ p → Alike q
+      go (Some columns) b p is of at =
           let here = stored_found key_total (timing_key id) timing_columns (timing_order id) committed q columns is in
           at_key q here.0 here.2
+      go None true (Some columns) none of at = let mine = own tables.timing id q columns stands.stand.timing_keys of at in at_key q mine.0 mine.1
+      go None _ _ none of at = found q ∙ (λ i. cond (of i) (at i) None) ∙ sym none
 
   pub committed_counted : length (rows_of id tables.timing) ≡ len committed
   committed_counted =

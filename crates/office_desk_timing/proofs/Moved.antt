@@ -90,10 +90,6 @@ module _ (id : ℕ) (tables : Content) where
       (Some (left_columns (left_by change))) (drafted_cells change) (changed_key change) _
       (get-insert cells_total tables.draft (timing_key id (changed_key change)) (left_columns (left_by change))))
 
-  turned_not : {A : Type 0} (b : Bool) (x y : A) → cond (not b) x y ≡ cond b y x
-  turned_not true x y = refl
-  turned_not false x y = refl
-
   pub one_moves : (change : TimingChange) → Moves id (committed_by change) (said_after change) tables (changed tables (row_change_of id change))
   one_moves (CommittedNew row) = put_row row
   one_moves (Committed (Put row)) = put_row row
@@ -105,7 +101,7 @@ module _ (id : ℕ) (tables : Content) where
   one_moves (DraftDropped rows) = in_draft _ (turned said_columns (λ b said. cond b silent said) (λ said. refl) id tables.draft None (λ said. refl) _
       (is_of id) (λ key. true)
       (λ at. get-retain_keys tables.draft (λ k. not (is_of id k)) at (λ k tie. ap (λ c. not (is_of id c)) (sym (cells_exact at k tie)))
-      ∙ turned_not (is_of id at) (get tables.draft at) None)
+      ∙ elim (is_of id at) as (λ b. cond (not b) (get tables.draft at) None ≡ cond b None (get tables.draft at)) [ true ↦ refl | false ↦ refl ])
       (of_itself id) (λ at hit. hit) (λ cells columns hit is. absurd cc))
 
 -- ---- and all

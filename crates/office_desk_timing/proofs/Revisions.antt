@@ -195,15 +195,15 @@ module _ (is_honest : Type 0) (tables : Content) (id : ℕ) (clerk : List ℕ) (
           (λ rows side at none. revises.line rows side at none ((edits_make at plans).make ∙ sym (settled_make at plans).make))
           (finds honest) office stands in
           record {
-            next = it.follows.0;
-            step = inr (rw it.at.there (inr (
-              λ idle. let none = idle_asks it.at.stands plans idle in busy none.0 none.1,
+            next = it.1.0;
+            step = inr (rw it.0.there (inr (
+              λ idle. let none = idle_asks it.0.stands plans idle in busy none.0 none.1,
               edits,
               plans.within,
-              (edits_make it.at.stands plans).make,
-              it.follows.1,
+              (edits_make it.0.stands plans).make,
+              it.1.1,
             )));
-            stand = it.follows.2;
+            stand = it.1.2;
           };
       writes = λ honest office stands.
           let at = found_there Plan tables office id found stands (finds honest) in

@@ -28,14 +28,6 @@ abbrev pub committed_said : Option Row → Said
 committed_said None = silent
 committed_said (Some row) = leaves row
 
-committed_cells : (row : Option Row) → option_map timing_columns row ≡ said_columns (committed_said row)
-committed_cells None = refl
-committed_cells (Some row) = refl
-
-committed_within : (key : Key) (row : Option Row) → IfSome row (λ row. IsRowWithin current_limits row × (key_of row ≡ key)) → IsSaid key (committed_said row)
-committed_within key None within = tt
-committed_within key (Some row) within = within
-
 -- the rows of a sound office's committed sets are records
 records_at : (office : Office) (id : ℕ) → IsSound office → AreRecords (side_at office id).committed
 records_at office id sound =
@@ -48,8 +40,10 @@ module _ (tables : Content) (office : Office) (id : ℕ) (stands : StandForSound
   pub timing_says : Says tables.timing id (λ key. committed_said (get (side_at office id).committed key))
   timing_says = record {
     keys = stands.stand.timing_keys;
-    stored = λ key. stands.stand.timing id key ∙ committed_cells (get (side_at office id).committed key);
-    within = λ key. committed_within key (get (side_at office id).committed key) (records_at office id stands.sound key);
+    stored = λ key. stands.stand.timing id key
+        ∙ elim (get (side_at office id).committed key) as (λ row. option_map timing_columns row ≡ said_columns (committed_said row)) [ None ↦ refl | Some row ↦ refl ];
+    within = λ key. elim (get (side_at office id).committed key) as (λ row. IfSome row (λ row. IsRowWithin current_limits row × (key_of row ≡ key)) → IsSaid key (committed_said row))
+        [ None ↦ λ none. tt | Some row ↦ λ here. here ] (records_at office id stands.sound key);
   }
 
   pub draft_says : Says tables.draft id (drafts_at stands.stand id)

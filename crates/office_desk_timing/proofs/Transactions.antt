@@ -15,7 +15,7 @@ use Rattle.office_tables_decisions.specs.{RecordBounds.IsOneOf, Asking.asking_co
 use Rattle.office_tables_decisions.proofs.Decisions.{refuses_so, unknown_decides}
 use Rattle.office_desk_timing.specs.Moving.{TellsDecision, moved_row, row_changes_of, rows_to, said_to}
 use Rattle.office_desk_timing.specs.{Reading.Finds, Reading.ReadsPlan, Reading.drafts_at, declared.reading.Found.Found}
-use Rattle.office_desk_timing.proofs.{IntersectionTable.not_there, IntersectionTable.sound_there, Keeps.IsSoundSide, Keeps.line_keeps, Keeps.side_sound, Keeps.sound_intersection, Moved.move_news, Moved.move_stands, Moved.with_timing_side, ReadBack.FoundThere, ReadBack.found_there, Stands.sound_with}
+use Rattle.office_desk_timing.proofs.{IntersectionTable.not_there, IntersectionTable.sound_there, Keeps.IsSoundSide, Keeps.line_keeps, Keeps.sound_intersection, Moved.move_news, Moved.move_stands, Moved.with_timing_side, ReadBack.FoundThere, ReadBack.found_there, Stands.sound_with}
 use Rattle.draft_core.specs.declared.refusal.DraftRefusal.TheVariants as draft
 use Rattle.office_tables_shelf.specs.declared.rows.Table.TheVariants as table
 use Rattle.office_tables_shelf.specs.declared.shelf.ShelfFault.TheVariants as fault
@@ -56,24 +56,20 @@ followed tables office id clerk found stands at (Err why) l told drafts keeps (i
 followed tables office id clerk found stands at (Err why) l told drafts keeps (inr same) = (office, ap (moved office id at.i) same, stands)
 
 -- on what was found, by lines that keep a timing side sound and that the decision follows
-pub record Comes (reach : Reach) (tables : Content) (id : ℕ) (clerk : List ℕ) (found : Found) (decision : Result Move DraftRefusal) (line : TimingSide → Result TimingSide DraftRefusal)
-    (office : Office) (stands : StandForSound tables office) : Type 0 where
-  pub at : FoundThere reach tables id found office stands
-  pub follows : Follow tables office id clerk found decision at.i (line at.i.timing)
-
 pub comes : (reach : Reach) (tables : Content) (id : ℕ) (clerk : List ℕ) (found : Found) (decision : Result Move DraftRefusal) (line : TimingSide → Result TimingSide DraftRefusal)
     → decision ≢ Err draft.NoMemory → IfOk decision (λ move. AreChangesWithin (drafted_in move.changes))
     → ((side next : TimingSide) → IsSoundSide side → line side ≡ Ok next → IsSoundSide next)
     → ((rows : RowsByKey) (side : TimingSide) → Stands reach found.timing rows side → violations_of side.committed ≡ [] → Follows rows side clerk decision (line side))
-    → Finds reach tables id (Some found) → (office : Office) (stands : StandForSound tables office) → Comes reach tables id clerk found decision line office stands
+    → Finds reach tables id (Some found) → (office : Office) (stands : StandForSound tables office)
+    → (at : FoundThere reach tables id found office stands) × Follow tables office id clerk found decision at.i (line at.i.timing)
 comes reach tables id clerk found decision line told drafts keeps follows finds office stands =
     let at = found_there reach tables office id found stands finds in
-    let sound = (sound_there tables office id stands at.i at.there).1 in
-    record {
-      at = at;
-      follows = followed tables office id clerk found stands at decision (line at.i.timing) told drafts
-          (λ next. keeps at.i.timing next (side_sound at.i sound)) (follows (drafts_at stands.stand id) at.i.timing at.stands sound.no_violations);
-    }
+    let sound = (sound_there tables office id stands at.i at.there).1 in (
+      at,
+      followed tables office id clerk found stands at decision (line at.i.timing) told drafts
+          (λ next. keeps at.i.timing next (record { revision = sound.revision; rows = sound.rows; no_violations = sound.no_violations; draft = sound.draft }))
+          (follows (drafts_at stands.stand id) at.i.timing at.stands sound.no_violations),
+    )
 
 -- ---- replies
 
@@ -201,9 +197,9 @@ module _ (is_honest : Type 0) (tables : Content) (id : ℕ) (clerk : List ℕ) (
         (λ side next sound line. line_keeps step clerk side next words within sound line)
         (λ rows side at none. takes.line rows side at (relied_on step side none)) (finds honest) office stands in
         subst₂ (λ (reply : Reply) (rows : List RowChange). Answers office command reply (changed_by tables rows)) (sym tells.1) (sym tells.2) (record {
-          next = it.follows.0;
-          step = inr (by_line step office id clerk ∙ ap (transacted office id (table_line step clerk)) it.at.there ∙ it.follows.1);
-          stand = it.follows.2;
+          next = it.1.0;
+          step = inr (by_line step office id clerk ∙ ap (transacted office id (table_line step clerk)) it.0.there ∙ it.1.1);
+          stand = it.1.2;
         });
     writes = λ honest other. subst (λ (rows : List RowChange). writes_in other rows ≤ most_writes tables command other) (sym tells.2)
         (few_to tables id clerk step found decision other (finds honest).1 takes.writes);

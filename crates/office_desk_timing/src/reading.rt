@@ -4,8 +4,7 @@ ghost use Rattle.office_tables_shelf.specs.{Damage.HasDamagedIntersection, Shelf
 ghost use Rattle.office_tables_decisions.specs.{Damage.HasDamageIn, Damage.HasDamagedPlan, Reads.OnlyReads, Reads.Reports};
 ghost use Rattle.office_desk_timing.specs.Reading.{Finds, ReadsPlan};
 
-use draft_core::changes::Changes;
-use draft_core::timing::{Reach, Timing};
+use draft_core::{Changes, Reach, Timing};
 use office_tables_decisions::committed::committed_set;
 use office_tables_shelf::rows::IntersectionRow;
 use office_tables_shelf::shelf::{Shelf, ShelfFault};
@@ -52,10 +51,7 @@ fn plan<S: Shelf>(
 {
     let committed = match reach {
         Reach::Row => return Ok((TimingSet::new(alloc), Changes::new(Vec::new(alloc)))),
-        Reach::Drafts => {
-            let rows = shelf.draft_rows(alloc, id)?;
-            return Ok((TimingSet::new(alloc), Changes::new(rows)));
-        }
+        Reach::Drafts => TimingSet::new(alloc),
         Reach::Plan => committed_set(shelf, alloc, id)?,
     };
     let changes = shelf.draft_rows(alloc, id)?;

@@ -3,11 +3,9 @@ ghost use Rattle.std.specs.Prelude.{◌≡◌, ◌↔◌, [], None, IfOk, IsTrue
 ghost use Rattle.office_tables_decisions.specs.Reads.{OnlyReads};
 ghost use Rattle.office_desk_timing.specs.Revising.{AreChangesTo, DecidesEdit, PlansChanges};
 
+use crate::changing::answer;
 use crate::reading::find;
-use crate::transacting::answer;
-use draft_core::changes::Changes;
-use draft_core::timing::{Reach, Timing};
-use draft_core::{overlay, revise};
+use draft_core::{Changes, Reach, Timing, overlay, revise};
 use office_machine::refusal::Refusal;
 use office_machine::reply::Reply;
 use office_tables_decisions::decided::Decided;

@@ -6,10 +6,7 @@ ghost use Rattle.office_tables_decisions.specs.{Damage.HasDamage, Damage.IsDone,
 ghost use Rattle.office_desk_timing.specs.{Decisions.IsVerdictOf, Listing.ListsEachIntersection};
 
 use crate::reading::{find, intersection_row};
-use draft_core::refusal::DraftRefusal;
-use draft_core::state::{DbState, Holder, Stage, Verdict};
-use draft_core::timing::{Reach, Timing};
-use draft_core::verdict;
+use draft_core::{DbState, DraftRefusal, Holder, Reach, Stage, Timing, Verdict, verdict};
 use office_machine::command::Command;
 use office_machine::intersections::ListedIntersection;
 use office_machine::refusal::Refusal;
@@ -37,18 +34,13 @@ pub fn list_intersections<S: Shelf>(
     let mut found = Vec::new(alloc);
     for (id, row) in all.as_slice() {
         let rows = shelf.committed_count(alloc, *id)?;
-        let IntersectionRow {
-            name,
-            interval,
-            revision,
-            holder,
-        } = row.clone()?;
+        let row = row.clone()?;
         let listed = ListedIntersection {
             id: *id,
-            name,
-            interval,
-            revision,
-            holder,
+            name: row.name,
+            interval: row.interval,
+            revision: row.revision,
+            holder: row.holder,
             rows,
         };
         found.push(listed).map_err(NoMemory::from)?;

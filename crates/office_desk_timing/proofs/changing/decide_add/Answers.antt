@@ -3,7 +3,7 @@ use Rattle.std.proofs.lemmas.Grind.{common_steps}
 use Rattle.office_machine.specs.declared.refusal.Refusal.TheVariants.{IntersectionDiffers}
 use Rattle.office_tables_decisions.proofs.Decisions.{refuses_so}
 use Rattle.office_desk_timing.proofs.NewIntersection.{added, there_answered}
-use Rattle.office_desk_timing.proofs.adding.decide_add.Goals as goal
+use Rattle.office_desk_timing.proofs.changing.decide_add.Goals as goal
 
 pub returns-in_default-clause-decides : goal.returns-in_default-clause-decides
 returns-in_default-clause-decides g c =
