@@ -2,7 +2,7 @@
 use Rattle.std.proofs.Common.{◌≡◌, ℕ, List, map, Option, Some, None, IsSome, IfSome, refl, ap, sym, subst, ◌∙◌, arith, option_map}
 use Rattle.std.specs.{Cmp.nat_cmp_total, Int.IsInRange, FinMap.entries, FinMap.get}
 use Rattle.signal_values.specs.Words.{AreWords}
-use Rattle.signal_records.specs.declared.{state.Holder.Holder, state.Stage.Stage, state.Stage.TheVariants.Transaction, state.Stage.TheVariants.Verify, state.Stage.TheVariants.Done}
+use Rattle.signal_records.specs.declared.{state.Holder.Holder, state.Stage.Stage}
 use Rattle.draft_core.specs.Transaction.{Draft, holder_of}
 use Rattle.office_tables_shelf.specs.Rows.{intersection_key, intersection_columns, stage_number, state_number, owner_cell}
 use Rattle.office_tables_shelf.specs.{Cells.Cell, Cells.TableRows, Content.Content, Damage.HasAnyDamagedIntersection, Shelf.IsThere, Shelf.ListsIntersections, Shelf.ReadsIntersection, declared.rows.IntersectionRow.IntersectionRow}
@@ -14,43 +14,27 @@ use Rattle.office_tables_decisions.proofs.RowsTell.{rows_tell}
 -- ---- a row is told by its cells
 
 stage_from_number : (a b : Stage) → stage_number a ≡ stage_number b → a ≡ b
-stage_from_number Transaction Transaction e = refl
-stage_from_number Verify Verify e = refl
-stage_from_number Done Done e = refl
-stage_from_number _ _ e = absurd (omega arith)
+stage_from_number a b e = grind arith
 
 holder_from_cells : (a b : Option Holder) → state_number a ≡ state_number b → owner_cell a ≡ owner_cell b → a ≡ b
-holder_from_cells None None e f = refl
-holder_from_cells (Some h) (Some k) e f =
-    let same_stage : h.stage ≡ k.stage = stage_from_number h.stage k.stage e in
-    let same_owner : h.owner ≡ k.owner = cc in
-    λ i. Some (record { stage = same_stage i; owner = same_owner i })
-holder_from_cells _ _ e f = cc
+holder_from_cells a b e f = grind arith
 
 row_from_cells : (a b : IntersectionRow) → intersection_columns a ≡ intersection_columns b → a ≡ b
-row_from_cells a b e =
-    let same_name : a.name ≡ b.name = cc in
-    let same_interval : a.interval ≡ b.interval = cc in
-    let same_revision : a.revision ≡ b.revision = cc in
-    let same_state : state_number a.holder ≡ state_number b.holder = cc in
-    let same_owner : owner_cell a.holder ≡ owner_cell b.holder = cc in
-    let same_holder = holder_from_cells a.holder b.holder same_state same_owner in
-    λ i. record { name = same_name i; interval = same_interval i; revision = same_revision i; holder = same_holder i }
+row_from_cells a b e = grind (arith, holder_from_cells)
 
 -- ---- the row of one intersection
 
 same_read : (row : Option IntersectionRow) (i : Option Intersection) → option_map intersection_columns row ≡ option_map columns_of i → row ≡ option_map row_of i
-same_read None None e = refl
-same_read (Some row) (Some i) e =
-    let same : intersection_columns row ≡ intersection_columns (row_of i) = cc in
-    ap (λ (r : IntersectionRow). Some r) (row_from_cells row (row_of i) same)
-same_read _ _ e = absurd cc
+same_read row i e = grind (arith, row_from_cells)
 
 -- the row that was read is that of the office
 pub row_read : (tables : Content) (office : Office) (id : ℕ) (row : Option IntersectionRow) → StandFor tables office → ReadsIntersection tables id row → row ≡ option_map row_of (get office.intersections id)
 row_read tables office id row stand reads = same_read row (get office.intersections id) (sym reads
     ∙ ap (λ (rows : TableRows). get rows (intersection_key id)) stand.intersection
     ∙ get_stored nat_cmp_total intersection_key columns_of intersection_order office.intersections id)
+
+none_of : (o : Option Intersection) → None ≡ option_map row_of o → o ≡ None
+none_of o e = grind arith
 
 module _ (tables : Content) (office : Office) (id : ℕ) (stands : StandForSound tables office) where
   pub there : (row : IntersectionRow) → ReadsIntersection tables id (Some row) → (i : Intersection) × (get office.intersections id ≡ Some i) × (row ≡ row_of i)
@@ -61,11 +45,7 @@ module _ (tables : Content) (office : Office) (id : ℕ) (stands : StandForSound
       ] (row_read tables office id (Some row) stands.stand reads)
 
   pub not_there : ReadsIntersection tables id None → get office.intersections id ≡ None
-  not_there reads =
-      elim (get office.intersections id) as (λ o. None ≡ option_map row_of o → o ≡ None) [
-        | None ↦ λ e. refl
-        | Some i ↦ λ e. absurd cc
-      ] (row_read tables office id None stands.stand reads)
+  not_there reads = none_of (get office.intersections id) (row_read tables office id None stands.stand reads)
 
   pub sound_there : (i : Intersection) → get office.intersections id ≡ Some i → IsInRange 1 9999 id × IsSoundIntersection i
   sound_there i is = (
@@ -87,11 +67,7 @@ abbrev pub of_entry : Entry → ℕ × IntersectionRow
 of_entry e = (e.0, row_of e.1)
 
 one_read : (a : ℕ × IntersectionRow) (e : Entry) → ◌≡◌ {A = List Cell × List Cell} (intersection_key a.0, intersection_columns a.1) (intersection_key e.0, columns_of e.1) → a ≡ of_entry e
-one_read a e same =
-    let keys : intersection_key a.0 ≡ intersection_key e.0 = ap (λ (p : List Cell × List Cell). p.0) same in
-    let columns : intersection_columns a.1 ≡ intersection_columns (row_of e.1) = ap (λ (p : List Cell × List Cell). p.1) same in
-    let number : a.0 ≡ e.0 = cc in
-    λ k. (number k, row_from_cells a.1 (row_of e.1) columns k)
+one_read a e same = grind (arith, row_from_cells)
 
 -- the rows that are read are those of the intersections
 pub rows_read : (tables : Content) (office : Office) → StandFor tables office → (rows : List (ℕ × IntersectionRow)) → ListsIntersections tables rows → rows ≡ map of_entry (entries office.intersections)
@@ -103,8 +79,7 @@ rows_read tables office stand rows lists =
 -- ---- each is a record
 
 owner_of : (draft : Option Draft) → IfSome draft IsSoundDraft → IfSome (option_map holder_of draft) (λ holder. AreWords 40 holder.owner)
-owner_of None sound = tt
-owner_of (Some draft) sound = sound.owner
+owner_of draft sound = grind arith
 
 pub no_damaged_intersection : (tables : Content) → HasAnyDamagedIntersection tables → (office : Office) → StandForSound tables office → ⊥
 no_damaged_intersection tables damaged office stands =

@@ -5,7 +5,7 @@ use Rattle.std.specs.{Prelude.IfSome, FinMap.get}
 use Rattle.signal_values.specs.Words.{AreWords}
 use Rattle.signal_records.specs.{Row.key_of, TimingSet.Rows, TimingSet.after_changes, Within.IsRowWithin, Within.current_limits, declared.key.Key.Key, declared.record.Row.Row, declared.record.Change.Change, declared.revision.TheConstants.LAST_REVISION, declared.state.Stage.Stage, declared.state.Stage.TheVariants.Transaction}
 use Rattle.signal_rules.specs.Violations.{violations_of}
-use Rattle.draft_core.specs.{DraftRows.Said, DraftRows.silent, DraftRows.leaves, DraftRows.removes, DraftRows.overlaid_row, DraftRows.row_at, Steps.asked_changes, Within.AreChangesWithin, declared.refusal.DraftRefusal.DraftRefusal, declared.step.Step.Step, declared.refusal.DraftRefusal.TheVariants.NotNormal, declared.refusal.DraftRefusal.TheVariants.NotTransaction}
+use Rattle.draft_core.specs.{DraftRows.Said, DraftRows.overlaid_row, DraftRows.row_at, Steps.asked_changes, Within.AreChangesWithin, declared.refusal.DraftRefusal.DraftRefusal, declared.step.Step.Step, declared.refusal.DraftRefusal.TheVariants.NotNormal, declared.refusal.DraftRefusal.TheVariants.NotTransaction}
 use Rattle.draft_core.specs.Transaction.{TimingSide, Draft, holder_of, owned, with_draft, begun_from, abandoned_from, table_line}
 use Rattle.draft_core.proofs.{Overlaid.get-after_changes, Sound.owned_inverts, Sound.committed_inverts}
 use Rattle.office_machine.specs.Office.{Intersection, IsSoundIntersection, IsSoundDraft, AreRecords}
@@ -15,15 +15,14 @@ use Rattle.draft_core.specs.declared.step.Step.TheVariants as step
 
 -- ---- records after changes
 
+overlaid_record : (key : Key) (committed : Option Row) (said : Said) → IfSome committed (λ row. IsRowWithin current_limits row × (key_of row ≡ key)) → IsSaid key said
+    → IfSome (overlaid_row committed said) (λ row. IsRowWithin current_limits row × (key_of row ≡ key))
+overlaid_record key committed said record_there within = grind arith
+
 records_after : (changes : List Change) (set : Rows) → AreRecords set → AreChangesWithin changes → AreRecords (after_changes set changes)
 records_after changes set records within key =
-    let IsRecord = λ (row : Row). IsRowWithin current_limits row × (key_of row ≡ key) in
-    subst (λ o. IfSome o IsRecord) (sym (get-after_changes changes set key))
-    (elim (row_at changes key) as (λ said. IsSaid key said → IfSome (overlaid_row (get set key) said) IsRecord) [
-      | silent ↦ λ said. records key
-      | leaves row ↦ λ said. said
-      | removes ↦ λ said. tt
-    ] (row_at_within changes key within))
+    subst (λ o. IfSome o (λ row. IsRowWithin current_limits row × (key_of row ≡ key))) (sym (get-after_changes changes set key))
+    (overlaid_record key (get set key) (row_at changes key) (records key) (row_at_within changes key within))
 
 -- ---- sound timing sides
 

@@ -1,5 +1,5 @@
 -- An intersection has as many rows in the table as its committed set has; and the list of the intersections is what it is of an office.
-use Rattle.std.proofs.Common.{◌≡◌, ℕ, Bool, true, false, List, [], ◌∷◌, length, map, cond, Option, Some, None, refl, ap, sym, subst, ◌∙◌}
+use Rattle.std.proofs.Common.{◌≡◌, ℕ, Bool, true, List, [], ◌∷◌, length, map, cond, Option, Some, None, refl, ap, sym, subst, ◌∙◌}
 use Rattle.std.proofs.lemmas.{Cmp.nat_cmp_total, List.length-map}
 use Rattle.std.specs.{FinMap.get, FinMap.len, FinMap.entries, FinMap.entries_sorted, FinMap.get-entries, FinMap.len-entries, List.AllByRecursion, Prelude.IfSome, declared.cmp.Ordering.TheVariants.Equal, FinMap.Entries.is_sorted-where_key, FinMap.Entries.find-where_key, FinMap.Entries.same_entries}
 use Rattle.cabinet_core.proofs.EntryLemmas.{entries_stand}

@@ -1,5 +1,5 @@
 -- The rows of a move make the tables stand for the office with the next timing side, and those that it adds are new in them.
-use Rattle.std.proofs.Common.{◌≡◌, ℕ, Bool, true, false, not, List, [], ◌∷◌, cond, Option, Some, None, refl, ap, sym, subst, ◌∙◌}
+use Rattle.std.proofs.Common.{◌≡◌, ℕ, Bool, true, false, not, List, [], ◌∷◌, cond, Option, Some, None, refl, ap, sym, subst, ◌∙◌, arith}
 use Rattle.std.proofs.lemmas.Bool.{cond_both, false_from_ne_true}
 use Rattle.std.specs.{List.AllByRecursion, FinMap.get, FinMap.insert, FinMap.get-insert, FinMap.get-remove, FinMap.get-retain_keys, Option.option_map, Ordering.eq_by_cmp}
 use Rattle.cabinet_core.specs.Register.{Register}
@@ -64,8 +64,7 @@ pub record Moves (id : ℕ) (committed : Key → Option Row → Option Row) (sai
   pub register : (r : Register) → RegisterStands old r → RegisterStands new r
 
 drafted_cells : (change : Change) (said : Said) → Some (left_columns (left_by change)) ≡ said_columns (later_of (said_by change) said)
-drafted_cells (Put row) said = refl
-drafted_cells (Remove k) said = refl
+drafted_cells change said = grind arith
 
 module _ (id : ℕ) (tables : Content) where
   -- a committed row is put or removed, as this says of its key
@@ -130,18 +129,17 @@ all_move id (change ∷ changes) tables =
 
 -- ---- the draft rows stay within their limits
 
+one_within : (change : TimingChange) (changes : List TimingChange) (key : Key) (said : Said) → AreChangesWithin (drafted_in (change ∷ changes)) → IsSaid key said
+    → IsSaid key (said_after change key said)
+one_within (DraftedNew change) changes key said within before = change_within change key said within.0 before
+one_within (Drafted change) changes key said within before = change_within change key said within.0 before
+one_within _ changes key said within before = grind arith
+
 after_within : (changes : List TimingChange) (key : Key) (said : Said)
     → AreChangesWithin (drafted_in changes) → IsSaid key said
     → IsSaid key (row_after changes key said)
 after_within [] key said within before = before
-after_within (DraftedNew change ∷ changes) key said within before =
-    after_within changes key _ within.1 (change_within change key said within.0 before)
-after_within (Drafted change ∷ changes) key said within before =
-    after_within changes key _ within.1 (change_within change key said within.0 before)
-after_within (DraftGone k ∷ changes) key said within before =
-    after_within changes key _ within (cond_both (eq_by_cmp key_cmp key k) silent said (IsSaid key) (λ hit. tt) (λ miss. before))
-after_within (DraftDropped rows ∷ changes) key said within before = after_within changes key silent within tt
-after_within (_ ∷ changes) key said within before = after_within changes key said within before
+after_within (change ∷ changes) key said within before = after_within changes key _ (grind arith) (one_within change changes key said within before)
 
 -- ---- the tables after a move
 
@@ -183,10 +181,7 @@ move_stands tables office id found clerk move next stands at within makes =
 none_added : (id : ℕ) (changes : List TimingChange) (tables : Content)
     → AllByRecursion AddsNone changes → AddNew tables (row_changes_of id changes)
 none_added id [] tables none = tt
-none_added id (CommittedNew row ∷ changes) tables none = absurd none.0
-none_added id (DraftedNew change ∷ changes) tables none = absurd none.0
-none_added id (Committed (Put row) ∷ changes) tables none = (tt, none_added id changes _ none.1)
-none_added id (_ ∷ changes) tables none = (tt, none_added id changes _ none.1)
+none_added id (change ∷ changes) tables none = (grind arith, none_added id changes _ none.1)
 
 -- ---- a move over rows that were read
 
@@ -198,10 +193,7 @@ record Known (tables : Content) (id : ℕ) (committed : Key → Option Row) (sai
 
 module _ (id : ℕ) (tables : Content) {committed : Key → Option Row} {said : Key → Said} where
   one_new : (change : TimingChange) (changes : List TimingChange) → Known tables id committed said (change ∷ changes) → AddsNew tables (row_change_of id change)
-  one_new (CommittedNew row) changes known = known.timing (key_of row) ∙ ap (option_map timing_columns) ((known.news (key_of row)).0 refl)
-  one_new (DraftedNew change) changes known = known.draft (changed_key change) ∙ ap said_columns ((known.news (changed_key change)).0 refl)
-  one_new (Committed (Put row)) changes known = tt
-  one_new _ changes known = tt
+  one_new change changes known = grind (arith, known.timing, known.draft, known.news)
 
 all_new : (id : ℕ) (changes : List TimingChange) (tables : Content) {committed : Key → Option Row} {said : Key → Said}
     → Known tables id committed said changes → AddNew tables (row_changes_of id changes)

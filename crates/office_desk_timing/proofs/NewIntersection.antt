@@ -9,7 +9,6 @@ use Rattle.office_tables_decisions.specs.{Changes.most_writes, Deciding.IsDecisi
 use Rattle.office_tables_decisions.proofs.Decisions.{accepted_decides, told_decides}
 use Rattle.office_desk_timing.proofs.Stands.{PlanStands, same_register, sound_with, stand_after, still_stands, unchanged}
 use Rattle.office_desk_timing.proofs.{EmptySet.no_records, EmptySet.no_violations, IntersectionTable.not_there, IntersectionTable.there}
-use Rattle.office_tables_shelf.specs.declared.rows.Table.TheVariants as table
 use Rattle.office_machine.specs.declared.refusal.Refusal.TheVariants as refusal
 use Rattle.office_machine.specs.declared.reply.Reply.TheVariants as reply
 
@@ -48,8 +47,7 @@ module _ (is_honest : Type 0) (tables : Content) (id interval : ℕ) (name : Lis
       (λ honest. few) (λ honest. (reads honest, tt))
     where
       few : (written : Table) → writes_in written (AddRow id (row_of (new_intersection interval name)) ∷ []) ≤ most_writes tables (AddIntersection id interval name) written
-      few table.Intersection = omega arith
-      few other = omega arith
+      few written = grind arith
 
   -- one was there
   pub there_answered : (row : IntersectionRow) (said : Reply) → (is_honest → ReadsIntersection tables id (Some row))

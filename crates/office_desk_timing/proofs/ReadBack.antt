@@ -1,9 +1,8 @@
 -- What was read of an intersection, for whichever sound office the tables stand for.
-use Rattle.std.proofs.Common.{◌≡◌, ℕ, List, [], ◌∷◌, map, Option, Some, None, refl, ap, sym, subst, ◌∙◌}
-use Rattle.std.proofs.lemmas.Bool.{cond_both}
-use Rattle.std.specs.{List.AllByRecursion, Ordering.eq_by_cmp, FinMap.empty, FinMap.get, FinMap.get-empty, FinMap.same_map}
-use Rattle.signal_records.specs.{Key.key_cmp, KeyOrder.key_total, KeyOrder.key_exact, Row.key_of, TimingSet.Rows, Within.IsRowWithin, Within.IsChangeWithin, Within.current_limits, declared.key.Key.Key, declared.record.Row.Row, declared.record.Change.Change, declared.record.Change.TheVariants.Put, declared.record.Change.TheVariants.Remove}
-use Rattle.draft_core.specs.DraftRows.{RowsByKey, Said, silent, leaves, removes, IsRead, RowStands, Stands, later_of, overlaid_row, row_at, said_at}
+use Rattle.std.proofs.Common.{◌≡◌, ℕ, List, [], ◌∷◌, map, Option, Some, None, refl, ap, sym, subst, ◌∙◌, arith}
+use Rattle.std.specs.{List.AllByRecursion, FinMap.empty, FinMap.get, FinMap.get-empty, FinMap.same_map}
+use Rattle.signal_records.specs.{ChangedRows.changed_key, Key.key_cmp, KeyOrder.key_total, KeyOrder.key_exact, Row.key_of, TimingSet.Rows, Within.IsRowWithin, Within.IsChangeWithin, Within.current_limits, declared.key.Key.Key, declared.record.Row.Row, declared.record.Change.Change, declared.record.Change.TheVariants.Put}
+use Rattle.draft_core.specs.DraftRows.{RowsByKey, Said, IsRead, RowStands, Stands, later_of, overlaid_row, row_at, said_at}
 use Rattle.draft_core.specs.{Transaction.TimingSide, Within.AreChangesWithin, declared.timing.Timing.Timing, declared.timing.Reach.Reach}
 use Rattle.draft_core.proofs.Overlaid.{get-after_changes}
 use Rattle.office_tables_shelf.specs.{Cells.Cell, Content.Content, Rows.draft_columns, Rows.draft_key, Rows.timing_columns, Rows.timing_key, Shelf.ListsDraft, declared.rows.IntersectionRow.IntersectionRow}
@@ -17,39 +16,27 @@ use Rattle.draft_core.specs.declared.timing.Reach.TheVariants as reach
 -- ---- what changes within their limits say of a key
 
 said_at_within : (change : Change) (key : Key) → IsChangeWithin current_limits change → IsSaid key (said_at change key)
-said_at_within (Put row) key within =
-    cond_both (eq_by_cmp key_cmp key (key_of row)) (leaves row) silent (IsSaid key) (λ hit. (within, sym (key_exact _ _ (tied _ hit)))) (λ miss. tt)
-said_at_within (Remove k) key within =
-    cond_both (eq_by_cmp key_cmp key k) removes silent (IsSaid key) (λ hit. subst (λ k. IsSaid k removes) (sym (key_exact _ _ (tied _ hit))) within) (λ miss. tt)
+said_at_within change key within = let same = key_exact key (changed_key change) in grind (arith, tied, same)
 
 -- and over what was said
-pub later_within : (key : Key) (late early : Said) → IsSaid key late → IsSaid key early
-    → IsSaid key (later_of late early)
-later_within key silent early in_late in_early = in_early
-later_within key _ early in_late in_early = in_late
-
 pub change_within : (change : Change) (key : Key) (early : Said) → IsChangeWithin current_limits change → IsSaid key early
     → IsSaid key (later_of (said_at change key) early)
-change_within change key early within in_early =
-    later_within key (said_at change key) early (said_at_within change key within) in_early
+change_within change key early within in_early = let said = said_at_within change key within in grind (arith, said)
 
 -- and changes
 pub row_at_within : (changes : List Change) (key : Key) → AreChangesWithin changes
     → IsSaid key (row_at changes key)
 row_at_within [] key within = tt
-row_at_within (change ∷ changes) key within = later_within key (row_at changes key)
-    (said_at change key) (row_at_within changes key within.1) (said_at_within change key within.0)
+row_at_within (change ∷ changes) key within =
+    let first = said_at_within change key within.0 in
+    let rest = row_at_within changes key within.1 in
+    grind (arith, first, rest)
 
 -- ---- the rows of a plan
 
 -- the cells of a row tell what it says
 cells_tell : (key : Key) (a b : Said) → said_columns a ≡ said_columns b → IsSaid key a → IsSaid key b → a ≡ b
-cells_tell key silent silent e in_a in_b = refl
-cells_tell key removes removes e in_a in_b = refl
-cells_tell key (leaves x) (leaves y) e in_a in_b =
-    let same : timing_columns x ≡ timing_columns y = cc in
-    ap (λ (row : Row). leaves row) (timing_columns_tell x y in_a.0 in_b.0 same)
-cells_tell key _ _ e in_a in_b = absurd cc
+cells_tell key a b e in_a in_b = grind (arith, timing_columns_tell)
 
 -- the changes that a table lists say what it says
 said_read : (tables : Content) (id : ℕ) {said : RowsByKey} → Says tables.draft id said → (changes : List Change) → ListsDraft tables id changes
@@ -69,8 +56,7 @@ puts_within [] within = tt
 puts_within (row ∷ rows) within = (within.0, puts_within rows within.1)
 
 laid_over : (row : Option Row) → overlaid_row None (committed_said row) ≡ row
-laid_over None = refl
-laid_over (Some row) = refl
+laid_over row = grind arith
 
 -- the set that was read is the committed set
 pub committed_read : (tables : Content) (office : Office) (id : ℕ) (set : Rows) → StandForSound tables office → IsCommittedSet tables id set

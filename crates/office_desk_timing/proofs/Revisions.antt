@@ -1,13 +1,13 @@
 -- What an edit of a plan is answered, on what was found, is a run of its steps, all of them or none.
-use Rattle.std.proofs.Common.{◌≡◌, ℕ, Bool, true, cond, List, [], ◌∷◌, ◌++◌, map, Option, Some, None, Result, Ok, Err, refl, ap, sym, subst, ◌∙◌, length, ◌≢◌, inl, inr, arith}
+use Rattle.std.proofs.Common.{◌≡◌, ℕ, Bool, cond, List, [], ◌∷◌, ◌++◌, map, Option, Some, None, Result, Ok, Err, refl, ap, sym, subst, ◌∙◌, length, ◌≢◌, inl, inr, arith}
 use Rattle.std.proofs.{Math.Path.subst₂, lemmas.List.length-map}
 use Rattle.std.specs.{FinMap.get, Cmp.tied_itself, List.AllByRecursion, Ordering.is_eq, List.Sorted.IsStrictlySortedBy, Option.option_map, Prelude.IfOk}
 use Rattle.signal_values.specs.{Words.AreWords}
-use Rattle.signal_records.specs.{declared.record.Change.Change, declared.state.Stage.TheVariants.Transaction, declared.state.Stage.TheVariants.Verify, declared.state.Stage.TheVariants.Done, ChangedRows.changed_key, Key.key_cmp, KeyOrder.key_total, TimingSet.Rows, TimingSet.after_changes, declared.record.Row.Row, declared.state.DbState.DbState, declared.state.DbState.TheVariants.Normal}
+use Rattle.signal_records.specs.{declared.record.Change.Change, ChangedRows.changed_key, Key.key_cmp, KeyOrder.key_total, TimingSet.Rows, TimingSet.after_changes, declared.record.Row.Row, declared.state.DbState.DbState, declared.state.DbState.TheVariants.Normal}
 use Rattle.signal_rules.specs.{declared.violation.Violation.Violation}
 use Rattle.signal_plans.specs.Difference.{AreTold, Explains, change_of, difference_at, difference_changes, place_of}
-use Rattle.signal_plans.specs.{declared.difference.Difference.Difference, declared.difference.Difference.TheVariants.Added, declared.difference.Difference.TheVariants.Removed, declared.difference.Difference.TheVariants.Changed}
-use Rattle.draft_core.specs.Revising.{and_then, committing, lines_of, opening_steps, taking_up, base_of, Revises, RevisionWrites, WritesRows, revision_steps}
+use Rattle.signal_plans.specs.{declared.difference.Difference.Difference}
+use Rattle.draft_core.specs.Revising.{and_then, committing, lines_of, taking_up, base_of, Revises, RevisionWrites, WritesRows, revision_steps}
 use Rattle.draft_core.specs.Transaction.{Draft, TimingSide, table_line, holder_of}
 use Rattle.draft_core.specs.{Steps.asked_changes, Within.AreChangesWithin, declared.refusal.DraftRefusal.DraftRefusal, declared.step.Step.Step, declared.step.Step.TheVariants.Edit, DraftRows.RowsByKey, DraftRows.Stands, News.AreInOrder, declared.timing.Reach.TheVariants.Plan, declared.timing.Timing.Timing, Moves.drafted_in, declared.refusal.DraftRefusal.TheVariants.NoMemory, declared.timing.Move.Move}
 use Rattle.draft_core.proofs.{Lines.free_of, Overlaid.base_is, OnlyChanges.among_within}
@@ -41,40 +41,21 @@ lines_keep clerk words last (step ∷ steps) side within sound is =
       | Err why ↦ λ line rest. absurd (let f : Err why ≡ Ok last = rest in cc)
     ] refl is
 
-committing_within : (commits : Bool) (violations : List Violation)
-    → AllByRecursion AsksWithin (committing commits violations)
-committing_within true [] = (tt, (tt, (tt, tt)))
-committing_within _ violations = tt
-
 pub revision_within : (held : Option Draft) (edits : List Change) (commits : Bool) (violations : List Violation)
     → AreChangesWithin edits
     → AllByRecursion AsksWithin (taking_up held ++ Edit edits ∷ committing commits violations)
-revision_within None edits commits violations within = (tt, (within, committing_within commits violations))
-revision_within (Some draft) edits commits violations within =
-    let all : AllByRecursion AsksWithin (Edit edits ∷ committing commits violations) = (within, committing_within commits violations) in
-    elim draft.stage as (λ stage. AllByRecursion AsksWithin
-    (opening_steps stage ++ Edit edits ∷ committing commits violations)) [
-      | Transaction ↦ all
-      | Verify ↦ (tt, (tt, all))
-      | Done ↦ (tt, all)
-    ]
+revision_within held edits commits violations within = grind arith
 
 -- ---- changes to another set
 
 change_places : (found : List Difference)
     → map place_of found ≡ map changed_key (difference_changes found)
 change_places [] = refl
-change_places (Added row ∷ ds) = λ k. changed_key (change_of (Added row)) ∷ change_places ds k
-change_places (Removed row ∷ ds) = λ k. changed_key (change_of (Removed row)) ∷ change_places ds k
-change_places (Changed before after ∷ ds) =
-    λ k. changed_key (change_of (Changed before after)) ∷ change_places ds k
+change_places (d ∷ ds) = grind (arith, change_places ds)
 
 -- a set does not differ from itself
 differs : (d : Difference) (row : Option Row) → Explains row row (Some d) → ⊥
-differs (Added new) row told = let f : None ≡ Some new = sym told.0 ∙ told.1 in cc
-differs (Removed old) row told = let f : Some old ≡ None = sym told.0 ∙ told.1 in cc
-differs (Changed before after) row told =
-    told.2 (let f : Some before ≡ Some after = sym told.0 ∙ told.1 in cc)
+differs d row told = grind arith
 
 none_told : (first second : Rows) (found : List Difference) → AreTold first second found
     → second ≡ first → found ≡ []
@@ -180,8 +161,7 @@ module _ (is_honest : Type 0) (tables : Content) (id : ℕ) (clerk : List ℕ) (
     writes_to stands lists (Err why) writes = refl
 
     made_to : (decision : Result Move DraftRefusal) → IsMoved (said_to decision) → rows_to id clerk found decision ≢ []
-    made_to (Ok move) went_on empty = cc
-    made_to (Err why) went_on empty = went_on
+    made_to decision went_on empty = grind arith
 
     -- the steps were taken, up to the first that is refused
     revised : AreWords 40 clerk → (found.timing.holder ≡ None → settled ≡ [] → ⊥) → (decision : Result Move DraftRefusal) → decision ≢ Err NoMemory

@@ -1,5 +1,5 @@
 -- What the queries answer, on the rows that were read, is a step of the office.
-use Rattle.std.proofs.Common.{◌≡◌, ℕ, List, [], Option, Some, None, refl, ap, sym, subst, ◌∙◌, option_map}
+use Rattle.std.proofs.Common.{◌≡◌, ℕ, List, [], Option, Some, None, refl, ap, sym, subst, ◌∙◌, option_map, arith}
 use Rattle.std.specs.FinMap.{get, len}
 use Rattle.signal_records.specs.{TimingSet.Rows, TimingSet.after_changes, declared.state.DbState.DbState, declared.state.Holder.Holder, declared.state.Verdict.Verdict}
 use Rattle.signal_rules.specs.{Violations.violations_of, declared.violation.Violation.Violation}
@@ -22,8 +22,7 @@ shows office id show said i there same = ap (λ (told : Reply). (told, office)) 
 -- ---- State
 
 same_holding : (d : Option Draft) → (state_of d ≡ state_of_holder (option_map holder_of d)) × (option_map (λ (x : Draft). x.owner) d ≡ option_map (λ (h : Holder). h.owner) (option_map holder_of d))
-same_holding None = (refl, refl)
-same_holding (Some draft) = (refl, refl)
+same_holding d = (grind arith, grind arith)
 
 pub state_shows : (tables : Content) (office : Office) (id : ℕ) (row : IntersectionRow) (count : ℕ) (verdict : Verdict) (state : DbState) (owner : Option (List ℕ))
     → StandForSound tables office → ReadsIntersection tables id (Some row) → CountsTiming tables id count → IsVerdictOf tables id row verdict

@@ -28,20 +28,19 @@ abbrev pub committed_said : Option Row → Said
 committed_said None = silent
 committed_said (Some row) = leaves row
 
+committed_cells : (row : Option Row) → option_map timing_columns row ≡ said_columns (committed_said row)
+committed_cells row = grind arith
+
 -- the rows of a sound office's committed sets are records
 records_at : (office : Office) (id : ℕ) → IsSound office → AreRecords (side_at office id).committed
-records_at office id sound =
-    elim (get office.intersections id) as (λ o. IfSome o IsSoundIntersection → AreRecords (side_of o).committed) [
-      | None ↦ λ here. no_records
-      | Some i ↦ λ here. here.rows
-    ] (sound.intersections id)
+records_at office id sound = let here = sound.intersections id in grind (arith, no_records, here)
 
 module _ (tables : Content) (office : Office) (id : ℕ) (stands : StandForSound tables office) where
   pub timing_says : Says tables.timing id (λ key. committed_said (get (side_at office id).committed key))
   timing_says = record {
     keys = stands.stand.timing_keys;
     stored = λ key. stands.stand.timing id key
-        ∙ elim (get (side_at office id).committed key) as (λ row. option_map timing_columns row ≡ said_columns (committed_said row)) [ None ↦ refl | Some row ↦ refl ];
+        ∙ committed_cells (get (side_at office id).committed key);
     within = λ key. elim (get (side_at office id).committed key) as (λ row. IfSome row (λ row. IsRowWithin current_limits row × (key_of row ≡ key)) → IsSaid key (committed_said row))
         [ None ↦ λ none. tt | Some row ↦ λ here. here ] (records_at office id stands.sound key);
   }
@@ -74,13 +73,10 @@ undamaged {rows = rows} {id = id} {said = said} says cells columns of stored no_
     go at.0 at.1 (said at.0) refl (says.within at.0) (sym stored ∙ ap (get rows) at.1 ∙ says.stored at.0)
   where
     go : (key : Key) → cells ≡ timing_key id key → (s : Said) → said key ≡ s → IsSaid key s → Some columns ≡ said_columns s → ⊥
-    go key here silent is within same = cc
-    go key here removes is within same = no_removal key is within here (let e : columns ≡ left_columns None = cc in e)
-    go key here (leaves row) is within same = no_row row within.0 (here ∙ ap (timing_key id) (sym within.1)) (let e : columns ≡ timing_columns row = cc in e)
+    go key here s is within same = grind (arith, no_row, no_removal)
 
 never_removed : (row : Option Row) → committed_said row ≡ removes → ⊥
-never_removed None e = cc
-never_removed (Some row) e = cc
+never_removed row e = grind arith
 
 pub no_damaged_timing : (tables : Content) (id : ℕ) → HasDamagedTiming tables id → (office : Office) → StandForSound tables office → ⊥
 no_damaged_timing tables id damaged office stands =

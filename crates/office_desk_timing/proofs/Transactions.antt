@@ -1,18 +1,17 @@
 -- What a command of the transaction answers, on what was found, is a step of the office.
-use Rattle.std.proofs.Common.{◌≡◌, ◌≢◌, ◌≤◌, ℕ, Bool, true, false, List, [], ◌∷◌, length, Option, Some, None, Result, Ok, Err, refl, ap, sym, subst, ◌∙◌, inl, inr, subst₂, arith}
+use Rattle.std.proofs.Common.{◌≡◌, ◌≢◌, ◌≤◌, ℕ, false, List, [], ◌∷◌, length, Option, Some, None, Result, Ok, Err, refl, ap, sym, subst, ◌∙◌, inl, inr, subst₂, arith}
 use Rattle.std.proofs.lemmas.List.{length-map}
-use Rattle.std.specs.{FinMap.get, Prelude.IfOk, Prelude.if◌then◌else◌, Prelude.not, Result.result_err, Str.bytes_eq}
+use Rattle.std.specs.{FinMap.get, Prelude.IfOk}
 use Rattle.signal_values.specs.Words.{AreWords}
-use Rattle.signal_records.specs.{declared.record.Change.Change, declared.record.Change.TheVariants.Put, declared.state.Holder.Holder, declared.state.Stage.Stage}
+use Rattle.signal_records.specs.{declared.record.Change.Change, declared.state.Holder.Holder}
 use Rattle.signal_rules.specs.Violations.{violations_of}
 use Rattle.draft_core.specs.Steps.{first_refusal, reach_of, IsLater, StepWrites, RefusesFirst, ReliesOn, Takes, asked_changes, most_committed, most_drafted}
-use Rattle.draft_core.specs.{DraftRows.RowsByKey, DraftRows.Stands, Moves.Follows, Moves.drafted_in, Moves.timing_writes, Moves.draft_writes, News.AddsOnlyNew, Transaction.TimingSide, Transaction.is_stage, Transaction.refused_by, Transaction.table_line, Within.AreChangesWithin, declared.refusal.DraftRefusal.DraftRefusal, declared.step.Step.Step, declared.timing.Move.Move, declared.timing.Reach.Reach, declared.timing.TimingChange.TimingChange, declared.timing.TimingChange.TheVariants.Committed}
-use Rattle.draft_core.specs.declared.step.Step.TheVariants.{Begin, Edit, Check, Commit, Abandon}
+use Rattle.draft_core.specs.{DraftRows.RowsByKey, DraftRows.Stands, Moves.Follows, Moves.drafted_in, Moves.timing_writes, Moves.draft_writes, News.AddsOnlyNew, Transaction.TimingSide, Transaction.table_line, Within.AreChangesWithin, declared.refusal.DraftRefusal.DraftRefusal, declared.step.Step.Step, declared.timing.Move.Move, declared.timing.Reach.Reach, declared.timing.TimingChange.TimingChange, declared.step.Step.TheVariants.Commit, declared.step.Step.TheVariants.Abandon}
 use Rattle.draft_core.proofs.OnlyChanges.{among_within}
 use Rattle.office_tables_shelf.specs.{Change.AddNew, Change.changed_by, Content.Content, Shelf.ListsDraft, Shelf.rows_of, Counts.is_same_table, Counts.writes_in, declared.rows.RowChange.RowChange, declared.rows.Table.Table, declared.shelf.ShelfFault.ShelfFault}
 use Rattle.office_machine.specs.{Office.Office, Office.Intersection, Step.answered, Step.transacted, Step.moved, Step.refusal_of_draft, Step.with_intersection, declared.command.Command.Command, declared.reply.Reply.Reply, declared.reply.Reply.TheVariants.Moved, declared.reply.Reply.TheVariants.Refused}
 use Rattle.office_tables_decisions.specs.{RecordBounds.IsOneOf, Asking.asking_command, Answers.Answers, Changes.IsQueryCommand, Changes.IsRefused, Changes.most_writes, Named.RefusesBy, Named.number_of, Named.numbers_of, Deciding.Decides, Deciding.IsDecision, StandFor.StandForSound, declared.decided.Decided.Decided}
-use Rattle.office_tables_decisions.proofs.Decisions.{refuses_so, unknown_decides}
+use Rattle.office_tables_decisions.proofs.Decisions.{unknown_decides}
 use Rattle.office_desk_timing.specs.Moving.{TellsDecision, moved_row, row_changes_of, rows_to, said_to}
 use Rattle.office_desk_timing.specs.{Reading.Finds, Reading.ReadsPlan, Reading.drafts_at, declared.reading.Found.Found}
 use Rattle.office_desk_timing.proofs.{IntersectionTable.not_there, IntersectionTable.sound_there, Keeps.IsSoundSide, Keeps.line_keeps, Keeps.sound_intersection, Moved.move_news, Moved.move_stands, Moved.with_timing_side, ReadBack.FoundThere, ReadBack.found_there, Stands.sound_with}
@@ -23,14 +22,12 @@ use Rattle.office_machine.specs.declared.refusal.Refusal.TheVariants as refusal
 
 -- what follows from what is so of a move
 pub if_ok : {A E : Type 0} {P Q : A → Type 0} (r : Result A E) → ((x : A) → P x → Q x) → IfOk r P → IfOk r Q
-if_ok (Ok x) more h = more x h
-if_ok (Err e) more h = tt
+if_ok r more h = grind arith
 
 -- ---- a line of the table is followed
 
 by_line : (step : Step) (office : Office) (id : ℕ) (clerk : List ℕ) → answered office (asking_command id clerk step) ≡ transacted office id (table_line step clerk) (get office.intersections id)
-by_line Begin office id clerk = refl
-by_line _ office id clerk = refl
+by_line step office id clerk = grind arith
 
 -- what comes of a line of the table: its reply, and the office, for which the tables then stand
 abbrev pub Follow : Content → Office → ℕ → List ℕ → Found → Result Move DraftRefusal → Intersection → Result TimingSide DraftRefusal → Type 0
@@ -74,14 +71,11 @@ comes reach tables id clerk found decision line told drafts keeps follows finds 
 -- ---- replies
 
 pub undamaged_to : (decision : Result Move DraftRefusal) → said_to decision ≢ Refused refusal.Damaged
-undamaged_to (Ok move) e = cc
-undamaged_to (Err draft.NoMemory) e = cc
-undamaged_to (Err why) e = cc
+undamaged_to decision e = grind arith
 
 module _ (tables : Content) (id : ℕ) (clerk : List ℕ) (found : Found) where
   pub refused_to : (decision : Result Move DraftRefusal) → IsRefused (said_to decision) → rows_to id clerk found decision ≡ []
-  refused_to (Ok move) refused = absurd refused
-  refused_to (Err why) refused = refl
+  refused_to decision refused = grind arith
 
   pub news_to : (reach : Reach) (decision : Result Move DraftRefusal) → ReadsPlan reach tables id found.timing.committed found.timing.delta → IfOk decision (λ move. AddsOnlyNew reach found.timing move.changes)
       → AddNew tables (rows_to id clerk found decision)
@@ -93,14 +87,12 @@ module _ (tables : Content) (id : ℕ) (clerk : List ℕ) (found : Found) where
 module _ (id : ℕ) where
   pub written : (changes : List TimingChange) → (writes_in table.Timing (row_changes_of id changes) ≡ timing_writes changes) × (writes_in table.Draft (row_changes_of id changes) ≡ draft_writes changes)
   written [] = (refl, refl)
-  written (Committed (Put row) ∷ changes) = let later = written changes in (omega (arith, later.0), omega (arith, later.1))
-  written (_ ∷ changes) = let later = written changes in (omega (arith, later.0), omega (arith, later.1))
+  written (change ∷ changes) = let later = written changes in (grind (arith, later.0), grind (arith, later.1))
 
   -- other tables are not written
   pub none_written : (other : Table) → is_same_table table.Timing other ≡ false → is_same_table table.Draft other ≡ false → (changes : List TimingChange) → writes_in other (row_changes_of id changes) ≡ 0
   none_written other t d [] = refl
-  none_written other t d (Committed (Put row) ∷ changes) = let later = none_written other t d changes in simp (t, d) (omega (arith, later))
-  none_written other t d (_ ∷ changes) = let later = none_written other t d changes in simp (t, d) (omega (arith, later))
+  none_written other t d (change ∷ changes) = let later = none_written other t d changes in grind (arith, later)
 
 -- the draft rows that were read are those of the table
 pub listed_many : (tables : Content) (id : ℕ) (changes : List Change) → ListsDraft tables id changes
@@ -131,49 +123,22 @@ few_to tables id clerk step found (Err why) other reads writes = omega arith
 
 -- ---- refusals
 
--- a step of the owner is refused by the state or by the owner, or later
-owner_named : (holder : Option Holder) (stage : Stage) (wrong : DraftRefusal) (clerk : List ℕ) (Later P : DraftRefusal → Type 0) (why : DraftRefusal)
-    → RefusesFirst (refused_by holder stage wrong clerk) Later (Err why) → P wrong → P draft.NotOwner → (Later why → P why) → P why
-owner_named None stage wrong clerk Later P why e state owner later = subst P (let f : Err wrong ≡ Err why = sym e in let g : wrong ≡ why = cc in g) state
-owner_named (Some holder) stage wrong clerk Later P why e state owner later = go (is_stage holder.stage stage) (bytes_eq holder.owner clerk) e
-  where
-    go : (in_stage is_owner : Bool) → RefusesFirst (result_err (if not in_stage then Err wrong else if not is_owner then Err draft.NotOwner else Ok holder)) Later (Err why) → P why
-    go true true e = later e
-    go true false e = subst P (let f : Err draft.NotOwner ≡ Err why = sym e in let g : draft.NotOwner ≡ why = cc in g) owner
-    go false is_owner e = subst P (let f : Err wrong ≡ Err why = sym e in let g : wrong ≡ why = cc in g) state
-
 -- the refusal is named for the command
 abbrev Names : ℕ → List ℕ → Step → DraftRefusal → Type 0
 Names id clerk step why = IsOneOf (numbers_of (asking_command id clerk step)) (number_of (refusal_of_draft why))
 
-later_named : (step : Step) (id : ℕ) (clerk : List ℕ) (why : DraftRefusal) → why ≢ draft.NoMemory → IsLater step why → Names id clerk step why
-later_named Commit id clerk (draft.VerifyFailed count) ne is = inr (inr (inr (inl refl)))
-later_named Commit id clerk draft.RevisionFull ne is = inr (inr (inr (inr (inl refl))))
-later_named Commit id clerk draft.NoMemory ne is = absurd (ne refl)
-later_named (Edit changes) id clerk why ne is = absurd (ne is)
-later_named Check id clerk why ne is = absurd (ne is)
-later_named Abandon id clerk why ne is = absurd (ne is)
-later_named _ id clerk why ne is = absurd is
-
 refusal_named : (step : Step) (id : ℕ) (clerk : List ℕ) (holder : Option Holder) (why : DraftRefusal)
     → RefusesFirst (first_refusal step holder clerk) (IsLater step) (Err why) → why ≢ draft.NoMemory → Names id clerk step why
-refusal_named Begin id clerk None why e ne = absurd e
-refusal_named Begin id clerk (Some holder) why e ne = subst (Names id clerk Begin) (let f : Err draft.NotNormal ≡ Err why = sym e in let g : draft.NotNormal ≡ why = cc in g) (inr (inl refl))
-refusal_named Abandon id clerk None why e ne = subst (Names id clerk Abandon) (let f : Err draft.NotTransaction ≡ Err why = sym e in let g : draft.NotTransaction ≡ why = cc in g) (inr (inl refl))
-refusal_named Abandon id clerk (Some holder) why e ne = absurd (ne e)
-refusal_named step id clerk holder why e ne = owner_named holder _ _ clerk (IsLater step) (Names id clerk step) why e (inr (inl refl)) (inr (inr (inl refl))) (later_named step id clerk why ne)
+refusal_named step id clerk holder why e ne = grind arith
 
 -- ---- the decision
 
 relied_on : (step : Step) (side : TimingSide) → violations_of side.committed ≡ [] → ReliesOn step side
-relied_on Check side none = none
-relied_on Commit side none = none
-relied_on _ side none = tt
+relied_on step side none = grind arith
 
 -- it is no query, and names that the intersection is not there
 asks : (id : ℕ) (clerk : List ℕ) (step : Step) → ¬ IsQueryCommand (asking_command id clerk step) × IsOneOf (numbers_of (asking_command id clerk step)) 10
-asks id clerk Begin = (λ query. query, inl refl)
-asks id clerk _ = (λ query. query, inl refl)
+asks id clerk step = (λ query. grind arith, grind arith)
 
 module _ (is_honest : Type 0) (tables : Content) (id : ℕ) (clerk : List ℕ) (step : Step) where
   abbrev command : Command
@@ -181,9 +146,7 @@ module _ (is_honest : Type 0) (tables : Content) (id : ℕ) (clerk : List ℕ) (
 
   named_to : (holder : Option Holder) (decision : Result Move DraftRefusal) → decision ≢ Err draft.NoMemory
       → RefusesFirst (first_refusal step holder clerk) (IsLater step) decision → RefusesBy (numbers_of command) (said_to decision)
-  named_to holder (Ok move) told refuses = λ why e. absurd cc
-  named_to holder (Err why) told refuses =
-      refuses_so (numbers_of command) (refusal_of_draft why) (refusal_named step id clerk holder why refuses (λ memory. told (ap Err memory)))
+  named_to holder decision told refuses = λ why e. grind arith
 
   -- on what was found
   pub transact_decides : (found : Found) (decision : Result Move DraftRefusal) (result : Result Decided ShelfFault)
