@@ -1,26 +1,16 @@
 -- The table of the intersections has their rows in the order of their numbers; each is a record, and is told by its cells.
 use Rattle.std.proofs.Common.{◌≡◌, ℕ, List, map, Option, Some, None, IsSome, IfSome, refl, ap, sym, subst, ◌∙◌, arith, option_map}
 use Rattle.std.specs.{Cmp.nat_cmp_total, Int.IsInRange, FinMap.entries, FinMap.get}
-use Rattle.signal_values.specs.Words.{AreWords}
-use Rattle.signal_records.specs.declared.{state.Holder.Holder, state.Stage.Stage}
-use Rattle.draft_core.specs.Transaction.{Draft, holder_of}
-use Rattle.office_tables_shelf.specs.Rows.{intersection_key, intersection_columns, stage_number, state_number, owner_cell}
-use Rattle.office_tables_shelf.specs.{Cells.Cell, Cells.TableRows, Content.Content, Damage.HasAnyDamagedIntersection, Shelf.IsThere, Shelf.ListsIntersections, Shelf.ReadsIntersection, declared.rows.IntersectionRow.IntersectionRow}
+use Rattle.office_tables_shelf.specs.{Rows.intersection_key, Rows.intersection_columns, Cells.Cell, Cells.TableRows, Content.Content, Damage.HasAnyDamagedIntersection, Shelf.IsThere, Shelf.ListsIntersections, Shelf.ReadsIntersection, declared.rows.IntersectionRow.IntersectionRow}
 use Rattle.office_tables_shelf.proofs.{KeyCells.intersection_order, StoredMaps.get_stored, StoredMaps.stored_entries, StoredMaps.stored_found}
-use Rattle.office_machine.specs.Office.{Office, Intersection, IsSoundDraft, IsSoundIntersection}
+use Rattle.office_machine.specs.Office.{Office, Intersection, IsSoundIntersection}
 use Rattle.office_tables_decisions.specs.StandFor.{StandFor, StandForSound, columns_of, row_of}
 use Rattle.office_tables_decisions.proofs.RowsTell.{rows_tell}
 
 -- ---- a row is told by its cells
 
-stage_from_number : (a b : Stage) → stage_number a ≡ stage_number b → a ≡ b
-stage_from_number a b e = grind arith
-
-holder_from_cells : (a b : Option Holder) → state_number a ≡ state_number b → owner_cell a ≡ owner_cell b → a ≡ b
-holder_from_cells a b e f = grind arith
-
 row_from_cells : (a b : IntersectionRow) → intersection_columns a ≡ intersection_columns b → a ≡ b
-row_from_cells a b e = grind (arith, holder_from_cells)
+row_from_cells a b e = grind arith
 
 -- ---- the row of one intersection
 
@@ -33,9 +23,6 @@ row_read tables office id row stand reads = same_read row (get office.intersecti
     ∙ ap (λ (rows : TableRows). get rows (intersection_key id)) stand.intersection
     ∙ get_stored nat_cmp_total intersection_key columns_of intersection_order office.intersections id)
 
-none_of : (o : Option Intersection) → None ≡ option_map row_of o → o ≡ None
-none_of o e = grind arith
-
 module _ (tables : Content) (office : Office) (id : ℕ) (stands : StandForSound tables office) where
   pub there : (row : IntersectionRow) → ReadsIntersection tables id (Some row) → (i : Intersection) × (get office.intersections id ≡ Some i) × (row ≡ row_of i)
   there row reads =
@@ -45,7 +32,7 @@ module _ (tables : Content) (office : Office) (id : ℕ) (stands : StandForSound
       ] (row_read tables office id (Some row) stands.stand reads)
 
   pub not_there : ReadsIntersection tables id None → get office.intersections id ≡ None
-  not_there reads = none_of (get office.intersections id) (row_read tables office id None stands.stand reads)
+  not_there reads = let same = row_read tables office id None stands.stand reads in grind arith
 
   pub sound_there : (i : Intersection) → get office.intersections id ≡ Some i → IsInRange 1 9999 id × IsSoundIntersection i
   sound_there i is = (
@@ -78,9 +65,6 @@ rows_read tables office stand rows lists =
 
 -- ---- each is a record
 
-owner_of : (draft : Option Draft) → IfSome draft IsSoundDraft → IfSome (option_map holder_of draft) (λ holder. AreWords 40 holder.owner)
-owner_of draft sound = grind arith
-
 pub no_damaged_intersection : (tables : Content) → HasAnyDamagedIntersection tables → (office : Office) → StandForSound tables office → ⊥
 no_damaged_intersection tables damaged office stands =
     let found = stored_found nat_cmp_total intersection_key columns_of intersection_order office.intersections damaged.key damaged.columns
@@ -93,6 +77,6 @@ no_damaged_intersection tables damaged office stands =
         interval_low = sound.1.interval_low;
         interval_high = sound.1.interval_high;
         revision = sound.1.revision;
-        owner = owner_of found.1.timing.draft sound.1.draft;
+        owner = let draft = sound.1.draft in grind (arith, draft);
       },
     ) found.2 found.3

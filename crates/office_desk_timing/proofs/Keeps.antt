@@ -1,28 +1,24 @@
 -- Each step of the transaction leads from a sound timing side to a sound one.
 use Rattle.std.proofs.Common.{◌≡◌, ◌+◌, ◌≤◌, ◌==◌, ℕ, false, List, [], Option, Some, None, Result, Ok, Err, sym, subst, arith}
 use Rattle.std.proofs.lemmas.Bool.Decides.{nat_tests}
-use Rattle.std.specs.{Prelude.IfSome, FinMap.get}
+use Rattle.std.specs.{Prelude.IfSome}
 use Rattle.signal_values.specs.Words.{AreWords}
-use Rattle.signal_records.specs.{Row.key_of, TimingSet.Rows, TimingSet.after_changes, Within.IsRowWithin, Within.current_limits, declared.key.Key.Key, declared.record.Row.Row, declared.record.Change.Change, declared.revision.TheConstants.LAST_REVISION, declared.state.Stage.Stage, declared.state.Stage.TheVariants.Transaction}
+use Rattle.signal_records.specs.{Row.key_of, TimingSet.Rows, TimingSet.after_changes, Within.IsRowWithin, Within.current_limits, declared.record.Change.Change, declared.revision.TheConstants.LAST_REVISION, declared.state.Stage.Stage, declared.state.Stage.TheVariants.Transaction}
 use Rattle.signal_rules.specs.Violations.{violations_of}
-use Rattle.draft_core.specs.{DraftRows.Said, DraftRows.overlaid_row, DraftRows.row_at, Steps.asked_changes, Within.AreChangesWithin, declared.refusal.DraftRefusal.DraftRefusal, declared.step.Step.Step, declared.refusal.DraftRefusal.TheVariants.NotNormal, declared.refusal.DraftRefusal.TheVariants.NotTransaction}
+use Rattle.draft_core.specs.{Steps.asked_changes, Within.AreChangesWithin, declared.refusal.DraftRefusal.DraftRefusal, declared.step.Step.Step, declared.refusal.DraftRefusal.TheVariants.NotNormal, declared.refusal.DraftRefusal.TheVariants.NotTransaction}
 use Rattle.draft_core.specs.Transaction.{TimingSide, Draft, holder_of, owned, with_draft, begun_from, abandoned_from, table_line}
 use Rattle.draft_core.proofs.{Overlaid.get-after_changes, Sound.owned_inverts, Sound.committed_inverts}
 use Rattle.office_machine.specs.Office.{Intersection, IsSoundIntersection, IsSoundDraft, AreRecords}
-use Rattle.office_tables_decisions.specs.StandFor.{IsSaid}
 use Rattle.office_desk_timing.proofs.ReadBack.{row_at_within}
 use Rattle.draft_core.specs.declared.step.Step.TheVariants as step
 
 -- ---- records after changes
 
-overlaid_record : (key : Key) (committed : Option Row) (said : Said) → IfSome committed (λ row. IsRowWithin current_limits row × (key_of row ≡ key)) → IsSaid key said
-    → IfSome (overlaid_row committed said) (λ row. IsRowWithin current_limits row × (key_of row ≡ key))
-overlaid_record key committed said record_there within = grind arith
-
 records_after : (changes : List Change) (set : Rows) → AreRecords set → AreChangesWithin changes → AreRecords (after_changes set changes)
 records_after changes set records within key =
-    subst (λ o. IfSome o (λ row. IsRowWithin current_limits row × (key_of row ≡ key))) (sym (get-after_changes changes set key))
-    (overlaid_record key (get set key) (row_at changes key) (records key) (row_at_within changes key within))
+    let before = records key in
+    let said = row_at_within changes key within in
+    subst (λ o. IfSome o (λ row. IsRowWithin current_limits row × (key_of row ≡ key))) (sym (get-after_changes changes set key)) (grind (arith, before, said))
 
 -- ---- sound timing sides
 

@@ -63,9 +63,6 @@ pub record Moves (id : ℕ) (committed : Key → Option Row → Option Row) (sai
   pub draft : Turns said_columns id said old.draft new.draft
   pub register : (r : Register) → RegisterStands old r → RegisterStands new r
 
-drafted_cells : (change : Change) (said : Said) → Some (left_columns (left_by change)) ≡ said_columns (later_of (said_by change) said)
-drafted_cells change said = grind arith
-
 module _ (id : ℕ) (tables : Content) where
   -- a committed row is put or removed, as this says of its key
   in_timing : (k : Key) (said : Said) (put : Option (List Cell)) (new : TableRows) → ((row : Option Row) → put ≡ option_map timing_columns (overlaid_row row said))
@@ -86,7 +83,7 @@ module _ (id : ℕ) (tables : Content) where
 
   put_draft : (change : Change) → Moves id (λ key row. row) (said_after (Drafted change)) tables (changed tables (row_change_of id (Drafted change)))
   put_draft change = in_draft _ (turned_at said_columns (λ b said. later_of (cond b (said_by change) silent) said) (λ said. refl) id tables.draft
-      (Some (left_columns (left_by change))) (drafted_cells change) (changed_key change) _
+      (Some (left_columns (left_by change))) (λ said. grind arith) (changed_key change) _
       (get-insert cells_total tables.draft (timing_key id (changed_key change)) (left_columns (left_by change))))
 
   pub one_moves : (change : TimingChange) → Moves id (committed_by change) (said_after change) tables (changed tables (row_change_of id change))

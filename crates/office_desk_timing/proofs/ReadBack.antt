@@ -1,5 +1,5 @@
 -- What was read of an intersection, for whichever sound office the tables stand for.
-use Rattle.std.proofs.Common.{◌≡◌, ℕ, List, [], ◌∷◌, map, Option, Some, None, refl, ap, sym, subst, ◌∙◌, arith}
+use Rattle.std.proofs.Common.{◌≡◌, ℕ, List, [], ◌∷◌, map, Some, refl, ap, sym, subst, ◌∙◌, arith}
 use Rattle.std.specs.{List.AllByRecursion, FinMap.empty, FinMap.get, FinMap.get-empty, FinMap.same_map}
 use Rattle.signal_records.specs.{ChangedRows.changed_key, Key.key_cmp, KeyOrder.key_total, KeyOrder.key_exact, Row.key_of, TimingSet.Rows, Within.IsRowWithin, Within.IsChangeWithin, Within.current_limits, declared.key.Key.Key, declared.record.Row.Row, declared.record.Change.Change, declared.record.Change.TheVariants.Put}
 use Rattle.draft_core.specs.DraftRows.{RowsByKey, Said, IsRead, RowStands, Stands, later_of, overlaid_row, row_at, said_at}
@@ -10,7 +10,7 @@ use Rattle.office_tables_shelf.proofs.{CellLemmas.tied, RowLemmas.timing_columns
 use Rattle.office_machine.specs.Office.{Office, Intersection, side_at, side_of}
 use Rattle.office_tables_decisions.{proofs.DraftLemmas.get_listed_draft, specs.Committed.IsCommittedSet, specs.StandFor.IsSaid, specs.StandFor.StandForSound, specs.StandFor.row_of, specs.StandFor.said_columns}
 use Rattle.office_desk_timing.specs.{Reading.Finds, Reading.ReadsPlan, Reading.drafts_at, Reading.row_found, declared.reading.Found.Found}
-use Rattle.office_desk_timing.proofs.{IntersectionTable.there, Stands.Says, Stands.committed_said, Stands.draft_says, Stands.timing_says}
+use Rattle.office_desk_timing.proofs.{IntersectionTable.there, Stands.Says, Stands.draft_says, Stands.timing_says}
 use Rattle.draft_core.specs.declared.timing.Reach.TheVariants as reach
 
 -- ---- what changes within their limits say of a key
@@ -55,9 +55,6 @@ puts_within : (rows : List Row) → AllByRecursion (IsRowWithin current_limits) 
 puts_within [] within = tt
 puts_within (row ∷ rows) within = (within.0, puts_within rows within.1)
 
-laid_over : (row : Option Row) → overlaid_row None (committed_said row) ≡ row
-laid_over row = grind arith
-
 -- the set that was read is the committed set
 pub committed_read : (tables : Content) (office : Office) (id : ℕ) (set : Rows) → StandForSound tables office → IsCommittedSet tables id set
     → set ≡ (side_at office id).committed
@@ -67,7 +64,7 @@ committed_read tables office id set stands is =
     (puts_listed id is.rows ∙ is.lists) (puts_within is.rows is.within) in
     is.made ∙ same_map key_total key_exact _ _ (λ key.
     get-after_changes changes empty key
-    ∙ (λ k. overlaid_row (get-empty key_cmp key k) (said key k)) ∙ laid_over (get (side_at office id).committed key))
+    ∙ (λ k. overlaid_row (get-empty key_cmp key k) (said key k)) ∙ (grind arith))
 
 plan_read : (reach : Reach) (tables : Content) (office : Office) (id : ℕ) (timing : Timing) (stands : StandForSound tables office)
     → ReadsPlan reach tables id timing.committed timing.delta → IsRead reach timing (drafts_at stands.stand id) (side_at office id)

@@ -1,16 +1,16 @@
 -- What an edit of a plan is answered, on what was found, is a run of its steps, all of them or none.
-use Rattle.std.proofs.Common.{◌≡◌, ℕ, Bool, cond, List, [], ◌∷◌, ◌++◌, map, Option, Some, None, Result, Ok, Err, refl, ap, sym, subst, ◌∙◌, length, ◌≢◌, inl, inr, arith}
+use Rattle.std.proofs.Common.{◌≡◌, ℕ, Bool, List, [], ◌∷◌, ◌++◌, map, Option, Some, None, Result, Ok, Err, refl, ap, sym, subst, ◌∙◌, length, ◌≢◌, inl, inr, arith}
 use Rattle.std.proofs.{Math.Path.subst₂, lemmas.List.length-map}
-use Rattle.std.specs.{FinMap.get, Cmp.tied_itself, List.AllByRecursion, Ordering.is_eq, List.Sorted.IsStrictlySortedBy, Option.option_map, Prelude.IfOk}
+use Rattle.std.specs.{Cmp.tied_itself, List.AllByRecursion, List.Sorted.IsStrictlySortedBy, Option.option_map, Prelude.IfOk}
 use Rattle.signal_values.specs.{Words.AreWords}
-use Rattle.signal_records.specs.{declared.record.Change.Change, ChangedRows.changed_key, Key.key_cmp, KeyOrder.key_total, TimingSet.Rows, TimingSet.after_changes, declared.record.Row.Row, declared.state.DbState.DbState, declared.state.DbState.TheVariants.Normal}
+use Rattle.signal_records.specs.{declared.record.Change.Change, ChangedRows.changed_key, Key.key_cmp, KeyOrder.key_total, TimingSet.Rows, TimingSet.after_changes, declared.state.DbState.DbState, declared.state.DbState.TheVariants.Normal}
 use Rattle.signal_rules.specs.{declared.violation.Violation.Violation}
-use Rattle.signal_plans.specs.Difference.{AreTold, Explains, change_of, difference_at, difference_changes, place_of}
+use Rattle.signal_plans.specs.Difference.{AreTold, change_of, difference_changes, place_of}
 use Rattle.signal_plans.specs.{declared.difference.Difference.Difference}
 use Rattle.draft_core.specs.Revising.{and_then, committing, lines_of, taking_up, base_of, Revises, RevisionWrites, WritesRows, revision_steps}
 use Rattle.draft_core.specs.Transaction.{Draft, TimingSide, table_line, holder_of}
 use Rattle.draft_core.specs.{Steps.asked_changes, Within.AreChangesWithin, declared.refusal.DraftRefusal.DraftRefusal, declared.step.Step.Step, declared.step.Step.TheVariants.Edit, DraftRows.RowsByKey, DraftRows.Stands, News.AreInOrder, declared.timing.Reach.TheVariants.Plan, declared.timing.Timing.Timing, Moves.drafted_in, declared.refusal.DraftRefusal.TheVariants.NoMemory, declared.timing.Move.Move}
-use Rattle.draft_core.proofs.{Lines.free_of, Overlaid.base_is, OnlyChanges.among_within}
+use Rattle.draft_core.proofs.{Overlaid.base_is, OnlyChanges.among_within}
 use Rattle.office_tables_shelf.specs.{Content.Content, Shelf.ListsDraft, declared.shelf.ShelfFault.ShelfFault}
 use Rattle.office_machine.specs.{Office.Intersection, Office.side_at, Office.side_of, declared.reply.Reply.Reply, declared.reply.Reply.TheVariants.Same, declared.reply.Reply.TheVariants.Moved, declared.reply.Reply.TheVariants.Refused}
 use Rattle.office_tables_decisions.specs.{declared.decided.Decided.Decided}
@@ -54,19 +54,12 @@ change_places [] = refl
 change_places (d ∷ ds) = grind (arith, change_places ds)
 
 -- a set does not differ from itself
-differs : (d : Difference) (row : Option Row) → Explains row row (Some d) → ⊥
-differs d row told = grind arith
-
-none_told : (first second : Rows) (found : List Difference) → AreTold first second found
-    → second ≡ first → found ≡ []
+none_told : (first second : Rows) (found : List Difference) → AreTold first second found → second ≡ first → found ≡ []
 none_told first second [] told same = refl
 none_told first second (d ∷ ds) told same =
-    let key = place_of d in
-    let here : difference_at key (d ∷ ds) ≡ Some d =
-    ap (λ o. cond (is_eq o) (Some d) (difference_at key ds)) (tied_itself key_total key) in
-    absurd (differs d (get first key)
-    (subst₂ (λ (set : Rows) (at : Option Difference). Explains (get first key) (get set key) at)
-    same here (told.explained key)))
+    let here = told.explained (place_of d) in
+    let tie = tied_itself key_total (place_of d) in
+    absurd (grind (arith, here, tie))
 
 module _ {first second : Rows} {changes : List Change} (to : AreChangesTo first second changes) where
   -- they are in the order of their keys, one for each difference
@@ -98,7 +91,7 @@ module _ {timing : Timing} {rows : RowsByKey} {side : TimingSide} {edit : PlanEd
 
   pub asks_idle : timing.holder ≡ None → settled ≡ [] → IsCommittedAlready edit side
   asks_idle free none = (
-    free_of stands (λ held. held ≡ None) free (λ e. refl),
+    (let same = stands.same_holder in grind arith),
     sym settled_make.make ∙ ap (after_changes side.committed) none,
   )
 

@@ -4,7 +4,7 @@ use Rattle.std.specs.FinMap.{get, len}
 use Rattle.signal_records.specs.{TimingSet.Rows, TimingSet.after_changes, declared.state.DbState.DbState, declared.state.Holder.Holder, declared.state.Verdict.Verdict}
 use Rattle.signal_rules.specs.{Violations.violations_of, declared.violation.Violation.Violation}
 use Rattle.draft_core.specs.{DraftRows.RowsByKey, DraftRows.Stands, Transaction.Draft, Transaction.TimingSide, Transaction.holder_of, Transaction.state_of, Transaction.state_of_holder, Transaction.verdict_of}
-use Rattle.draft_core.proofs.{Lines.free_of, Lines.held_by, Overlaid.draft_is}
+use Rattle.draft_core.proofs.{Overlaid.draft_is}
 use Rattle.office_tables_shelf.specs.{Content.Content, Shelf.CountsTiming, Shelf.ReadsIntersection, declared.rows.IntersectionRow.IntersectionRow}
 use Rattle.office_machine.specs.{Office.Office, Office.Intersection, Office.side_of, Step.answered, Step.shown, Step.state_shown, Step.draft_shown, Step.timing_shown, declared.reply.Reply.Reply}
 use Rattle.office_tables_decisions.specs.{Committed.IsCommittedSet, StandFor.StandForSound}
@@ -86,13 +86,17 @@ timing_shows tables office id row set stands reads is =
 
 -- ---- Draft
 
+held_draft : (d : Option Draft) (holder : Holder) → Some holder ≡ option_map holder_of d → (draft : Draft) × (d ≡ Some draft) × (holder_of draft ≡ holder)
+held_draft None holder e = absurd cc
+held_draft (Some draft) holder e = (draft, refl, let same : holder_of draft ≡ holder = cc in same)
+
 module _ (tables : Content) (office : Office) (id : ℕ) (found : Found) (stands : StandForSound tables office) (finds : Finds reach.Plan tables id (Some found)) where
   -- nobody holds one
   pub no_draft_shows : found.timing.holder ≡ None → answered office (command.Draft id) ≡ (draft_shown None, office)
   no_draft_shows free =
       let at = found_there reach.Plan tables office id found stands finds in
-      shows office id (λ j. draft_shown j.timing.draft) _ at.i at.there
-      (free_of at.stands (λ held. draft_shown held ≡ draft_shown None) free (λ e. refl))
+      let same = at.stands.same_holder in
+      shows office id (λ j. draft_shown j.timing.draft) _ at.i at.there (grind arith)
 
   -- the draft is shown whole, with what it breaks
   pub draft_shows : (holder : Holder) (rows : Rows) (violations : List Violation) → found.timing.holder ≡ Some holder
@@ -100,7 +104,7 @@ module _ (tables : Content) (office : Office) (id : ℕ) (found : Found) (stands
       → answered office (command.Draft id) ≡ (reply.Draft (record { owner = holder.owner; rows = rows; violations = violations }), office)
   draft_shows holder rows violations held made judged =
       let at = found_there reach.Plan tables office id found stands finds in
-      shows office id (λ j. draft_shown j.timing.draft) _ at.i at.there
-      (held_by at.stands holder (λ d. draft_shown d ≡ reply.Draft (record { owner = holder.owner; rows = rows; violations = violations })) held (λ draft there same.
-      let is : draft.set ≡ rows = sym (made ∙ draft_is at.stands draft there) in
-      (λ k. reply.Draft (record { owner = (same k).owner; rows = is k; violations = (ap violations_of is ∙ sym judged) k }))))
+      let it = held_draft at.i.timing.draft holder (sym held ∙ at.stands.same_holder) in
+      let same : it.0.set ≡ rows = sym (made ∙ draft_is at.stands it.0 it.1) in
+      shows office id (λ j. draft_shown j.timing.draft) _ at.i at.there (ap draft_shown it.1
+      ∙ (λ k. reply.Draft (record { owner = (it.2 k).owner; rows = same k; violations = (ap violations_of same ∙ sym judged) k })))

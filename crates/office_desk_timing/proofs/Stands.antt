@@ -1,5 +1,5 @@
 -- The tables that stand for an office: that each row of a plan is a record, and what another intersection in its place makes of them.
-use Rattle.std.proofs.Common.{◌≡◌, ◌≢◌, ℕ, pos, List, Option, Some, None, refl, ap, sym, subst, ◌∙◌, true, false, inl, inr, IfSome, option_map, arith}
+use Rattle.std.proofs.Common.{◌≡◌, ◌≢◌, ℕ, pos, List, Option, Some, None, refl, ap, sym, subst, ◌∙◌, true, false, inl, inr, option_map, arith}
 use Rattle.std.proofs.{Math.Path.subst₂, lemmas.Bool.Decides.nat_tests, lemmas.Bool.cond_both}
 use Rattle.std.specs.{Cmp.nat_cmp_total, Int.IsInRange, Ordering.nat_cmp, Ordering.eq_by_cmp}
 use Rattle.std.specs.FinMap.{get, insert, get-insert, nat_cmp-IsAntisymmetric}
@@ -28,9 +28,6 @@ abbrev pub committed_said : Option Row → Said
 committed_said None = silent
 committed_said (Some row) = leaves row
 
-committed_cells : (row : Option Row) → option_map timing_columns row ≡ said_columns (committed_said row)
-committed_cells row = grind arith
-
 -- the rows of a sound office's committed sets are records
 records_at : (office : Office) (id : ℕ) → IsSound office → AreRecords (side_at office id).committed
 records_at office id sound = let here = sound.intersections id in grind (arith, no_records, here)
@@ -39,10 +36,8 @@ module _ (tables : Content) (office : Office) (id : ℕ) (stands : StandForSound
   pub timing_says : Says tables.timing id (λ key. committed_said (get (side_at office id).committed key))
   timing_says = record {
     keys = stands.stand.timing_keys;
-    stored = λ key. stands.stand.timing id key
-        ∙ committed_cells (get (side_at office id).committed key);
-    within = λ key. elim (get (side_at office id).committed key) as (λ row. IfSome row (λ row. IsRowWithin current_limits row × (key_of row ≡ key)) → IsSaid key (committed_said row))
-        [ None ↦ λ none. tt | Some row ↦ λ here. here ] (records_at office id stands.sound key);
+    stored = λ key. stands.stand.timing id key ∙ (grind arith);
+    within = λ key. let here = records_at office id stands.sound key in grind (arith, here);
   }
 
   pub draft_says : Says tables.draft id (drafts_at stands.stand id)
@@ -75,13 +70,10 @@ undamaged {rows = rows} {id = id} {said = said} says cells columns of stored no_
     go : (key : Key) → cells ≡ timing_key id key → (s : Said) → said key ≡ s → IsSaid key s → Some columns ≡ said_columns s → ⊥
     go key here s is within same = grind (arith, no_row, no_removal)
 
-never_removed : (row : Option Row) → committed_said row ≡ removes → ⊥
-never_removed row e = grind arith
-
 pub no_damaged_timing : (tables : Content) (id : ℕ) → HasDamagedTiming tables id → (office : Office) → StandForSound tables office → ⊥
 no_damaged_timing tables id damaged office stands =
     undamaged (timing_says tables office id stands) damaged.key damaged.columns damaged.of damaged.stored damaged.no_row
-    (λ key is. absurd (never_removed (get (side_at office id).committed key) is))
+    (λ key is. absurd (grind arith))
 
 no_damaged_draft : (tables : Content) (id : ℕ) → HasDamagedDraft tables id → (office : Office) → StandForSound tables office → ⊥
 no_damaged_draft tables id damaged office stands =

@@ -5,12 +5,12 @@ use Rattle.std.specs.{FinMap.get, Prelude.IfOk}
 use Rattle.signal_values.specs.Words.{AreWords}
 use Rattle.signal_records.specs.{declared.record.Change.Change, declared.state.Holder.Holder}
 use Rattle.signal_rules.specs.Violations.{violations_of}
-use Rattle.draft_core.specs.Steps.{first_refusal, reach_of, IsLater, StepWrites, RefusesFirst, ReliesOn, Takes, asked_changes, most_committed, most_drafted}
+use Rattle.draft_core.specs.Steps.{first_refusal, reach_of, IsLater, StepWrites, RefusesFirst, Takes, asked_changes, most_committed, most_drafted}
 use Rattle.draft_core.specs.{DraftRows.RowsByKey, DraftRows.Stands, Moves.Follows, Moves.drafted_in, Moves.timing_writes, Moves.draft_writes, News.AddsOnlyNew, Transaction.TimingSide, Transaction.table_line, Within.AreChangesWithin, declared.refusal.DraftRefusal.DraftRefusal, declared.step.Step.Step, declared.timing.Move.Move, declared.timing.Reach.Reach, declared.timing.TimingChange.TimingChange, declared.step.Step.TheVariants.Commit, declared.step.Step.TheVariants.Abandon}
 use Rattle.draft_core.proofs.OnlyChanges.{among_within}
 use Rattle.office_tables_shelf.specs.{Change.AddNew, Change.changed_by, Content.Content, Shelf.ListsDraft, Shelf.rows_of, Counts.is_same_table, Counts.writes_in, declared.rows.RowChange.RowChange, declared.rows.Table.Table, declared.shelf.ShelfFault.ShelfFault}
-use Rattle.office_machine.specs.{Office.Office, Office.Intersection, Step.answered, Step.transacted, Step.moved, Step.refusal_of_draft, Step.with_intersection, declared.command.Command.Command, declared.reply.Reply.Reply, declared.reply.Reply.TheVariants.Moved, declared.reply.Reply.TheVariants.Refused}
-use Rattle.office_tables_decisions.specs.{RecordBounds.IsOneOf, Asking.asking_command, Answers.Answers, Changes.IsQueryCommand, Changes.IsRefused, Changes.most_writes, Named.RefusesBy, Named.number_of, Named.numbers_of, Deciding.Decides, Deciding.IsDecision, StandFor.StandForSound, declared.decided.Decided.Decided}
+use Rattle.office_machine.specs.{Office.Office, Office.Intersection, Step.answered, Step.transacted, Step.moved, Step.with_intersection, declared.command.Command.Command, declared.reply.Reply.Reply, declared.reply.Reply.TheVariants.Moved, declared.reply.Reply.TheVariants.Refused}
+use Rattle.office_tables_decisions.specs.{Asking.asking_command, Answers.Answers, Changes.IsRefused, Changes.most_writes, Named.RefusesBy, Named.numbers_of, Deciding.Decides, Deciding.IsDecision, StandFor.StandForSound, declared.decided.Decided.Decided}
 use Rattle.office_tables_decisions.proofs.Decisions.{unknown_decides}
 use Rattle.office_desk_timing.specs.Moving.{TellsDecision, moved_row, row_changes_of, rows_to, said_to}
 use Rattle.office_desk_timing.specs.{Reading.Finds, Reading.ReadsPlan, Reading.drafts_at, declared.reading.Found.Found}
@@ -121,24 +121,7 @@ few_to tables id clerk step found (Ok move) table.Draft reads writes =
 few_to tables id clerk step found (Ok move) other reads writes = omega (arith, none_written id other refl refl move.changes)
 few_to tables id clerk step found (Err why) other reads writes = omega arith
 
--- ---- refusals
-
--- the refusal is named for the command
-abbrev Names : ℕ → List ℕ → Step → DraftRefusal → Type 0
-Names id clerk step why = IsOneOf (numbers_of (asking_command id clerk step)) (number_of (refusal_of_draft why))
-
-refusal_named : (step : Step) (id : ℕ) (clerk : List ℕ) (holder : Option Holder) (why : DraftRefusal)
-    → RefusesFirst (first_refusal step holder clerk) (IsLater step) (Err why) → why ≢ draft.NoMemory → Names id clerk step why
-refusal_named step id clerk holder why e ne = grind arith
-
 -- ---- the decision
-
-relied_on : (step : Step) (side : TimingSide) → violations_of side.committed ≡ [] → ReliesOn step side
-relied_on step side none = grind arith
-
--- it is no query, and names that the intersection is not there
-asks : (id : ℕ) (clerk : List ℕ) (step : Step) → ¬ IsQueryCommand (asking_command id clerk step) × IsOneOf (numbers_of (asking_command id clerk step)) 10
-asks id clerk step = (λ query. grind arith, grind arith)
 
 module _ (is_honest : Type 0) (tables : Content) (id : ℕ) (clerk : List ℕ) (step : Step) where
   abbrev command : Command
@@ -158,7 +141,7 @@ module _ (is_honest : Type 0) (tables : Content) (id : ℕ) (clerk : List ℕ) (
         let it = comes (reach_of step) tables id clerk found decision (table_line step clerk) tells.0
         (if_ok decision (λ move writes. among_within (drafted_in move.changes) (asked_changes step) writes.drafts within) takes.writes)
         (λ side next sound line. line_keeps step clerk side next words within sound line)
-        (λ rows side at none. takes.line rows side at (relied_on step side none)) (finds honest) office stands in
+        (λ rows side at none. takes.line rows side at (grind arith)) (finds honest) office stands in
         subst₂ (λ (reply : Reply) (rows : List RowChange). Answers office command reply (changed_by tables rows)) (sym tells.1) (sym tells.2) (record {
           next = it.1.0;
           step = inr (by_line step office id clerk ∙ ap (transacted office id (table_line step clerk)) it.0.there ∙ it.1.1);
@@ -169,7 +152,7 @@ module _ (is_honest : Type 0) (tables : Content) (id : ℕ) (clerk : List ℕ) (
     news = λ honest. subst (AddNew tables) (sym tells.2) (news_to tables id clerk found (reach_of step) decision (finds honest).1
         (if_ok decision (λ move writes. writes.news) takes.writes));
     refused = λ refused. tells.2 ∙ refused_to tables id clerk found decision (subst IsRefused tells.1 refused);
-    query = λ query. absurd ((asks id clerk step).0 query);
+    query = λ query. absurd (grind arith);
     named = λ why e. named_to found.timing.holder decision tells.0 takes.refuses why (sym tells.1 ∙ e);
     undamaged = λ e. undamaged_to decision (sym tells.1 ∙ e);
   }
@@ -179,5 +162,5 @@ module _ (is_honest : Type 0) (tables : Content) (id : ℕ) (clerk : List ℕ) (
   pub absent_decides : (decided : Decided) → (is_honest → Finds (reach_of step) tables id None)
       → decided.reply ≡ Refused refusal.UnknownIntersection → decided.changes.items ≡ [] → IsDecision is_honest tables command decided
   absent_decides decided finds told none =
-      unknown_decides is_honest tables command decided told (asks id clerk step).1 none (λ honest office stands.
+      unknown_decides is_honest tables command decided told (grind arith) none (λ honest office stands.
       by_line step office id clerk ∙ ap (transacted office id (table_line step clerk)) (not_there tables office id stands (finds honest)))
