@@ -1,4 +1,3 @@
-pub mod Adding
 pub mod Reading
 pub mod Moving
 pub mod Decisions

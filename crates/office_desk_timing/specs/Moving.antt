@@ -1,19 +1,14 @@
 -- How a step of the transaction on an intersection's timing is answered, and what it writes.
 use Rattle.std.specs.Prelude.{◌≡◌, ◌≢◌, ℕ, List, [], ◌∷◌, map, Result, Ok, Err}
 use Rattle.signal_records.specs.declared.record.Change.TheVariants.{Put, Remove}
-use Rattle.draft_core.specs.Moves.{next_holder}
-use Rattle.draft_core.specs.declared.timing.Move.{Move}
-use Rattle.draft_core.specs.declared.timing.TimingChange.{TimingChange}
+use Rattle.draft_core.specs.{Moves.next_holder, declared.refusal.DraftRefusal.DraftRefusal, declared.refusal.DraftRefusal.TheVariants.NoMemory, declared.timing.Move.Move, declared.timing.TimingChange.TimingChange}
 use Rattle.draft_core.specs.declared.timing.TimingChange.TheVariants.{CommittedNew, Committed, DraftedNew, Drafted, DraftGone, DraftDropped}
-use Rattle.draft_core.specs.declared.refusal.DraftRefusal.{DraftRefusal}
-use Rattle.draft_core.specs.declared.refusal.DraftRefusal.TheVariants.{NoMemory}
-use Rattle.office_tables_shelf.specs.declared.rows.IntersectionRow.{IntersectionRow}
-use Rattle.office_tables_shelf.specs.declared.rows.RowChange.{RowChange}
+use Rattle.office_tables_shelf.specs.declared.{rows.IntersectionRow.IntersectionRow, rows.RowChange.RowChange, shelf.ShelfFault.ShelfFault}
 use Rattle.office_tables_shelf.specs.declared.rows.RowChange.TheVariants.{PutIntersection, AddTiming, PutTiming, RemoveTiming, AddDraft, PutDraft, RemoveDraft, DropDraft}
+use Rattle.office_machine.specs.{Step.refusal_of_draft, declared.reply.Reply.Reply, declared.reply.Reply.TheVariants.Moved, declared.reply.Reply.TheVariants.Refused}
+use Rattle.office_tables_decisions.specs.declared.decided.Decided.{Decided}
 use Rattle.office_desk_timing.specs.declared.reading.Found.{Found}
-use Rattle.office_machine.specs.declared.reply.Reply.{Reply}
-use Rattle.office_machine.specs.declared.reply.Reply.TheVariants.{Moved, Refused}
-use Rattle.office_machine.specs.Step.{refusal_of_draft}
+use Rattle.office_tables_shelf.specs.declared.shelf.ShelfFault.TheVariants as fault
 
 -- a change of the committed rows or of the draft of an intersection's timing, as a change of the rows of the tables
 abbrev pub row_change_of : ℕ → TimingChange → RowChange
@@ -38,18 +33,29 @@ moved_row found clerk move = record {
   holder = next_holder move.holder clerk found.timing.holder;
 }
 
--- the reply shows the move, and the rows written are first the intersection's own and then those of the move
-pub record WritesMove (id : ℕ) (clerk : List ℕ) (found : Found) (move : Move) (reply : Reply) (changes : List RowChange) : Type 0 where
-  pub told : reply ≡ Moved move.revision move.state move.verdict
-  pub rows : changes
-      ≡ PutIntersection id (moved_row found clerk move) ∷ row_changes_of id move.changes
+-- the rows that a move writes: first the intersection's own, and then those of its timing side
+abbrev pub rows_of_move : ℕ → List ℕ → Found → Move → List RowChange
+rows_of_move id clerk found move = PutIntersection id (moved_row found clerk move) ∷ row_changes_of id move.changes
 
--- the answer to this decision may be refused memory: it is a move, or was itself refused memory
+-- ---- a decision of the transaction, as it is answered
+
+-- a move is shown, and a refusal is told
+abbrev pub said_to : Result Move DraftRefusal → Reply
+said_to (Ok move) = Moved move.revision move.state move.verdict
+said_to (Err why) = Refused (refusal_of_draft why)
+
+-- a move is written, and for a refusal no row
+abbrev pub rows_to : ℕ → List ℕ → Found → Result Move DraftRefusal → List RowChange
+rows_to id clerk found (Ok move) = rows_of_move id clerk found move
+rows_to id clerk found (Err why) = []
+
+-- memory may be refused: to a move, or to the decision already
 abbrev pub WantsMemory : Result Move DraftRefusal → Type 0
 WantsMemory (Ok move) = Unit {0}
-WantsMemory (Err refusal) = refusal ≡ NoMemory
+WantsMemory (Err why) = why ≡ NoMemory
 
--- a decision of the transaction as reply and rows: a move is written, and a refusal, which is never for want of memory, is told and writes none
-abbrev pub WritesDecision : ℕ → List ℕ → Found → Result Move DraftRefusal → Reply → List RowChange → Type 0
-WritesDecision id clerk found (Ok move) reply changes = WritesMove id clerk found move reply changes
-WritesDecision id clerk found (Err refusal) reply changes = (refusal ≢ NoMemory) × (reply ≡ Refused (refusal_of_draft refusal)) × (changes ≡ [])
+-- the decision is answered, unless memory is refused
+abbrev pub TellsDecision : ℕ → List ℕ → Found → Result Move DraftRefusal → Result Decided ShelfFault → Type 0
+TellsDecision id clerk found decision (Ok decided) =
+    (decision ≢ Err NoMemory) × (decided.reply ≡ said_to decision) × (decided.changes.items ≡ rows_to id clerk found decision)
+TellsDecision id clerk found decision (Err other) = WantsMemory decision × (other ≡ fault.NoMemory)

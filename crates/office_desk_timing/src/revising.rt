@@ -1,13 +1,11 @@
 //! A clerk's edit of a plan, decided in one step.
-ghost use Rattle.std.specs.Prelude.{◌≡◌, [], None, IfOk, IsTrue, ⊤};
-ghost use Rattle.office_desk_timing.specs.Revising.{AreChangesTo, DecidesEdit, PlansChanges, plan_from};
+ghost use Rattle.std.specs.Prelude.{◌≡◌, ◌↔◌, [], None, IfOk, IsTrue, ⊤};
 ghost use Rattle.office_tables_decisions.specs.Reads.{OnlyReads};
+ghost use Rattle.office_desk_timing.specs.Revising.{AreChangesTo, DecidesEdit, PlansChanges};
 
-use crate::moving::answer;
+use crate::changing::answer;
 use crate::reading::find;
-use draft_core::changes::Changes;
-use draft_core::timing::{Reach, Timing};
-use draft_core::{overlay, revise};
+use draft_core::{Changes, Reach, Timing, overlay, revise};
 use office_machine::refusal::Refusal;
 use office_machine::reply::Reply;
 use office_tables_decisions::decided::Decided;
@@ -25,16 +23,6 @@ pub struct PlanEdit {
     pub replaces: bool,
     /// The plan is committed, if it breaks no rule.
     pub commits: bool,
-}
-
-/// The plan that an edit asks for, by the rows that the clerk goes on with.
-fn plan_of(alloc: Global, base: &TimingSet, edit: &PlanEdit) -> Result<TimingSet, NoMemory>
-    ensures { IfOk result (λ plan. plan ≡ plan_from edit.now base.now) }
-{
-    if edit.replaces {
-        return TimingSet::new(alloc).changed(edit.changes.as_slice());
-    }
-    overlay(alloc, base, edit.changes.as_slice())
 }
 
 /// The changes that make the second set of the first, one for each key at which they differ.
@@ -56,7 +44,11 @@ fn plan_changes(
         PlansChanges timing.now edit.now planned.0 planned.1.items) }
 {
     let base = overlay(alloc, &timing.committed, timing.delta.as_slice())?;
-    let plan = plan_of(alloc, &base, edit)?;
+    let plan = if edit.replaces {
+        TimingSet::new(alloc).changed(edit.changes.as_slice())?
+    } else {
+        overlay(alloc, &base, edit.changes.as_slice())?
+    };
     let edits = Changes::new(changes_to(alloc, &base, &plan)?);
     let settled = changes_to(alloc, &timing.committed, &plan)?;
     Ok((edits, settled))
@@ -64,8 +56,7 @@ fn plan_changes(
 
 /// Nothing is to be done: nobody holds a draft, and the plan is the committed set.
 fn asks_nothing(timing: &Timing, settled: &[Change]) -> bool
-    ensures is { IsTrue result → (timing.now.holder ≡ None) × (settled.now ≡ []) }
-    ensures other { timing.now.holder ≡ None → settled.now ≡ [] → IsTrue result }
+    ensures { IsTrue result ↔ ((timing.now.holder ≡ None) × (settled.now ≡ [])) }
 {
     timing.holder.is_none() && settled.is_empty()
 }

@@ -1,58 +1,67 @@
-//! The queries State, Timing and Draft.
-ghost use Rattle.std.specs.Prelude.{◌≡◌, ◌≢◌, ◌∷◌, [], ⊤, IfOk};
+//! The list of all intersections, and the queries State, Timing and Draft about one.
+ghost use Rattle.std.specs.{Option.option_map, Prelude.◌≡◌, Prelude.⊤};
 ghost use Rattle.draft_core.specs.Transaction.{state_of_holder};
-ghost use Rattle.office_tables_decisions.specs.Reads.{OnlyReads, Reports};
-ghost use Rattle.office_tables_decisions.specs.Deciding.{Decides};
-ghost use Rattle.office_tables_decisions.specs.Damage.{HasDamage, IsDone};
-ghost use Rattle.office_desk_timing.specs.Decisions.{row_shown, IsVerdictOf, ShowsDraft};
-ghost use Rattle.office_tables_decisions.specs.Named.{RefusesBy};
+ghost use Rattle.office_tables_shelf.specs.Damage.{HasAnyDamagedIntersection};
+ghost use Rattle.office_tables_decisions.specs.{Damage.HasDamage, Damage.IsDone, Deciding.Decides, Reads.OnlyReads, Reads.Reports};
+ghost use Rattle.office_desk_timing.specs.{Decisions.IsVerdictOf, Listing.ListsEachIntersection};
 
-use crate::reading::{Found, find, intersection_row};
-use draft_core::refusal::DraftRefusal;
-use draft_core::state::{DbState, Holder, Stage, Verdict};
-use draft_core::timing::{Reach, Timing};
-use draft_core::verdict;
+use crate::reading::{find, intersection_row};
+use draft_core::{DbState, DraftRefusal, Holder, Reach, Stage, Timing, Verdict, verdict};
 use office_machine::command::Command;
+use office_machine::intersections::ListedIntersection;
 use office_machine::refusal::Refusal;
 use office_machine::reply::{IntersectionState, OpenDraft, Reply, RunningTiming, Violations};
 use office_tables_decisions::committed::committed_set;
 use office_tables_decisions::decided::Decided;
 use office_tables_shelf::rows::IntersectionRow;
 use office_tables_shelf::shelf::{Shelf, ShelfFault};
-use signal_records::{InterId, NoMemory};
+use signal_records::{InterId, NoMemory, Words};
 use signal_rules::violations;
 use std::alloc::Global;
 
-fn state_of(holder: &Option<Holder>) -> DbState
-    ensures { result ≡ state_of_holder holder.now }
+/// All intersections, in ascending order of their numbers. Their committed rows are counted, not
+/// read.
+pub fn list_intersections<S: Shelf>(
+    shelf: &mut S,
+    alloc: Global,
+) -> Result<Vec<ListedIntersection>, ShelfFault>
+    ensures lists { Reports (S.is_honest shelf.new) result
+        (λ found. ListsEachIntersection (S.content shelf.old) found.items)
+        (HasAnyDamagedIntersection (S.content shelf.old)) }
+    ensures reads { OnlyReads S.Shelf ⊤ result shelf.old shelf.new }
 {
-    match holder {
-        None => DbState::Normal,
-        Some(holder) => match holder.stage {
-            Stage::Transaction => DbState::Transaction,
-            Stage::Verify => DbState::Verify,
-            Stage::Done => DbState::Done,
-        },
+    let all = shelf.intersections(alloc)?;
+    let mut found = Vec::new(alloc);
+    for (id, row) in all.as_slice() {
+        let rows = shelf.committed_count(alloc, *id)?;
+        let row = row.clone()?;
+        let listed = ListedIntersection {
+            id: *id,
+            name: row.name,
+            interval: row.interval,
+            revision: row.revision,
+            holder: row.holder,
+            rows,
+        };
+        found.push(listed).map_err(NoMemory::from)?;
     }
+    Ok(found)
 }
 
-/// What the query State shows of an intersection, by its row, how many committed rows it has, and
-/// the verdict on its draft.
-fn state_reply(id: InterId, row: IntersectionRow, rows: usize, verify: Verdict) -> Reply
-    ensures { result ≡ Reply.State (row_shown id row rows verify) }
+/// The state of an intersection and the owner of its draft, by who holds it.
+fn state_and_owner(holder: Option<Holder>) -> (DbState, Option<Words<40>>)
+    ensures state { result.0 ≡ state_of_holder holder }
+    ensures owner { result.1 ≡ option_map (λ holder. holder.owner) holder }
 {
-    let state = state_of(&row.holder);
-    let owner = row.holder.map(|holder| holder.owner);
-    Reply::State(IntersectionState {
-        id,
-        interval: row.interval,
-        name: row.name,
-        owner,
-        revision: row.revision,
-        rows,
-        state,
-        verify,
-    })
+    let Some(Holder { stage, owner }) = holder else {
+        return (DbState::Normal, None);
+    };
+    let state = match stage {
+        Stage::Transaction => DbState::Transaction,
+        Stage::Verify => DbState::Verify,
+        Stage::Done => DbState::Done,
+    };
+    (state, Some(owner))
 }
 
 /// The verdict on the draft of an intersection of which this row was read. Only in state Done is
@@ -97,7 +106,18 @@ pub fn decide_state<S: Shelf>(
     };
     let rows = shelf.committed_count(alloc, id)?;
     let verify = verdict_at(shelf, alloc, id, &row)?;
-    Ok(Decided::from_reply(alloc, state_reply(id, row, rows, verify)))
+    let (state, owner) = state_and_owner(row.holder);
+    let shown = Reply::State(IntersectionState {
+        id,
+        interval: row.interval,
+        name: row.name,
+        owner,
+        revision: row.revision,
+        rows,
+        state,
+        verify,
+    });
+    Ok(Decided::from_reply(alloc, shown))
 }
 
 /// Decides the query Timing, which shows an intersection's committed rows; `UnknownIntersection`
@@ -123,34 +143,9 @@ pub fn decide_timing<S: Shelf>(
     Ok(Decided::from_reply(alloc, Reply::Timing(timing)))
 }
 
-/// What the query Draft shows of an intersection whose whole plan was read: the owner, the rows of
-/// the draft and the rules that they break; `NotTransaction` where nobody holds a draft.
-fn draft_of(alloc: Global, found: Found) -> Result<Reply, NoMemory>
-    ensures shows { IfOk result (λ reply. ShowsDraft found reply) }
-    ensures named { IfOk result (λ reply. RefusesBy (13 ∷ []) reply) }
-    ensures undamaged { IfOk result (λ reply. reply ≢ Reply.Refused Refusal.Damaged) }
-{
-    let Timing {
-        holder,
-        committed,
-        delta,
-        ..
-    } = found.timing;
-    let Some(holder) = holder else {
-        let refusal = DraftRefusal::NotTransaction;
-        return Ok(Reply::Refused(Refusal::Draft(refusal)));
-    };
-    let rows = committed.changed(delta.as_slice())?;
-    let violations = Violations::new(violations(alloc, &rows)?);
-    Ok(Reply::Draft(OpenDraft {
-        owner: holder.owner,
-        rows,
-        violations,
-    }))
-}
-
-/// Decides the query Draft; `UnknownIntersection` where the intersection is not there, and
-/// `NotTransaction` where nobody holds a draft of it.
+/// Decides the query Draft, which shows who holds the draft, its rows and the rules that they break;
+/// `UnknownIntersection` where the intersection is not there, and `NotTransaction` where nobody
+/// holds a draft of it.
 pub fn decide_draft<S: Shelf>(
     shelf: &mut S,
     alloc: Global,
@@ -163,5 +158,22 @@ pub fn decide_draft<S: Shelf>(
     let Some(found) = find(shelf, alloc, id, Reach::Plan)? else {
         return Ok(Decided::from_refusal(alloc, Refusal::UnknownIntersection));
     };
-    Ok(Decided::from_reply(alloc, draft_of(alloc, found)?))
+    let Timing {
+        holder,
+        committed,
+        delta,
+        ..
+    } = found.timing;
+    let Some(holder) = holder else {
+        let refusal = Refusal::Draft(DraftRefusal::NotTransaction);
+        return Ok(Decided::from_refusal(alloc, refusal));
+    };
+    let rows = committed.changed(delta.as_slice())?;
+    let violations = Violations::new(violations(alloc, &rows)?);
+    let shown = Reply::Draft(OpenDraft {
+        owner: holder.owner,
+        rows,
+        violations,
+    });
+    Ok(Decided::from_reply(alloc, shown))
 }

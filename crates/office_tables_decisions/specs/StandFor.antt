@@ -2,7 +2,7 @@
 use Rattle.std.specs.Prelude.{◌≡◌, ℕ, List, Option, Some, None}
 use Rattle.std.specs.{Option.option_map, FinMap.entries, FinMap.get}
 use Rattle.signal_records.specs.{Row.key_of, Within.IsRowWithin, Within.IsKeyWithin, Within.current_limits, declared.key.Key.Key, declared.limits.Limits.Limits}
-use Rattle.draft_core.specs.Transaction.{holder_of}
+use Rattle.draft_core.specs.Transaction.{TimingSide, holder_of}
 use Rattle.draft_core.specs.DraftRows.{Said, silent, leaves, removes, RowStands}
 use Rattle.office_tables_shelf.specs.{Cells.Cell, Cells.TableRows, Cells.tree_rows, Content.Content, declared.rows.IntersectionRow.IntersectionRow, RegisterStands.RegisterStands}
 use Rattle.office_tables_shelf.specs.Rows.{intersection_key, intersection_columns, timing_key, timing_columns_in, left_columns_in}
@@ -44,15 +44,15 @@ said_columns_in limits removes = Some (left_columns_in limits None)
 abbrev pub said_columns : Said → Option (List Cell)
 said_columns = said_columns_in current_limits
 
--- the draft table has at a key what the draft of an office says of it, as a version spells it
-pub record DraftRowStandsIn (v : Version) (tables : Content) (office : Office) (id : ℕ) (key : Key) : Type 0 where
+-- the draft table has at a key of an intersection what the draft of its timing side says of it, as a version spells it
+pub record DraftRowStandsIn (v : Version) (tables : Content) (side : TimingSide) (id : ℕ) (key : Key) : Type 0 where
   pub said : Said
   pub stored : get tables.draft (timing_key id key) ≡ said_columns_in v.limits said
-  pub stands : RowStands (get (side_at office id).committed key) said (side_at office id).draft key
+  pub stands : RowStands (get side.committed key) said side.draft key
   pub within : IsSaidIn v key said
 
--- the draft table has at a key what the draft of an office says of it, as today spells it
-abbrev pub DraftRowStands : Content → Office → ℕ → Key → Type 0
+-- the draft table has at a key of an intersection what the draft of its timing side says of it, as today spells it
+abbrev pub DraftRowStands : Content → TimingSide → ℕ → Key → Type 0
 DraftRowStands = DraftRowStandsIn today
 
 -- the tables hold the rows of the office as a version writes them, and no others
@@ -60,7 +60,7 @@ pub record StandForIn (v : Version) (tables : Content) (office : Office) : Type 
   pub intersection : tables.intersection ≡ tree_rows intersection_key columns_of (entries office.intersections)
   pub timing : (id : ℕ) (key : Key) → get tables.timing (timing_key id key) ≡ option_map (timing_columns_in v.limits) (get (side_at office id).committed key)
   pub timing_keys : HasTimingKeys tables.timing
-  pub draft : (id : ℕ) (key : Key) → DraftRowStandsIn v tables office id key
+  pub draft : (id : ℕ) (key : Key) → DraftRowStandsIn v tables (side_at office id) id key
   pub draft_keys : HasTimingKeys tables.draft
   pub register : RegisterStands tables office.register
 

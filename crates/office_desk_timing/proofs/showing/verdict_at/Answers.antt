@@ -1,23 +1,18 @@
-use Rattle.std.proofs.Common.{Some, ap, subst, ◌∙◌}
+use Rattle.std.proofs.Common.{Some, ap, ◌∙◌}
 use Rattle.std.specs.Option.{option_map}
 use Rattle.signal_records.specs.declared.{state.Holder.Holder, state.Stage.Stage}
-use Rattle.draft_core.specs.declared.timing.Reach.TheVariants.{Plan}
-use Rattle.office_desk_timing.specs.Reading.{FindsAny}
 use Rattle.office_tables_decisions.proofs.ReadLemmas.{handed_reports}
 use Rattle.office_desk_timing.proofs.Shown.{no_verdict, verdict_found}
 use Rattle.office_desk_timing.proofs.showing.verdict_at.Goals as goal
 
 pub returns-in_default-2-clause-verdict : goal.returns-in_default-2-clause-verdict
 returns-in_default-2-clause-verdict g c = λ honest.
-    let tables = g.S.Shelf.content c.args.shelf.now in
-    no_verdict tables c.args.id c.args.row.now _
-    (subst (FindsAny Plan tables c.args.id) c.in_default-2.is (c.in_ok-found.ensures.found honest).0)
+    no_verdict _ c.args.id c.args.row.now _ (rw c.in_default-2.is at (c.in_ok-found.ensures.found honest))
 
 pub returns-clause-verdict : goal.returns-clause-verdict
 returns-clause-verdict g c = λ honest.
-    let tables = g.S.Shelf.content c.args.shelf.now in
-    verdict_found tables c.args.id c.args.row.now c.in-Some-2.found c.in_ok-verdict.field-0
-    (subst (FindsAny Plan tables c.args.id) c.in-Some-2.is (c.in_ok-found.ensures.found honest).0) c.in_ok-verdict.ensures
+    verdict_found _ c.args.id c.args.row.now c.in-Some-2.found c.in_ok-verdict.field-0
+    (rw c.in-Some-2.is at (c.in_ok-found.ensures.found honest)) c.in_ok-verdict.ensures
 
 pub returns-in_err-found-clause-verdict : goal.returns-in_err-found-clause-verdict
 returns-in_err-found-clause-verdict g c = handed_reports _ _ _ _ _ c.from_residual.ensures.1

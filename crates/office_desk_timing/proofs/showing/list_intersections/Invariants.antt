@@ -3,7 +3,7 @@ use Rattle.std.specs.Prelude.{⊤}
 use Rattle.office_tables_shelf.specs.Shelf.{ListsIntersections}
 use Rattle.office_tables_decisions.proofs.ReadLemmas.{HasRead}
 use Rattle.office_desk_timing.specs.Listing.{listed_in}
-use Rattle.office_desk_timing.proofs.listing.list_intersections.Given as goal
+use Rattle.office_desk_timing.proofs.showing.list_intersections.Given as goal
 
 -- what is listed so far of the rows that were read; the shelf is open
 abbrev pub invariant-loop-id : goal.invariant-loop-id
