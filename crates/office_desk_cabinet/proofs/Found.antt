@@ -15,7 +15,6 @@ use Rattle.office_tables_shelf.proofs.StoredMaps.{get_stored}
 use Rattle.office_desk_cabinet.specs.RegisterStands.{inspection_cells, order_cells, line_cells, delivery_cells, RegisterStands, RegisterStandsSound}
 use Rattle.office_tables_shelf.specs.Places.{Place, Inspection, Order, Line, Part, Delivery, RecordAt, WithinAt, ReadsAt, key_cells, own_key, columns_at}
 use Rattle.office_desk_cabinet.specs.Registers.{held_in}
-use Rattle.office_desk_cabinet.proofs.Lines.{ReadsKeys}
 use Rattle.office_desk_cabinet.proofs.Places.{cells_at, reads_tell}
 
 -- ---- what the tables have
@@ -59,6 +58,17 @@ sound_at r sound (Delivery code n) = IfSome_then (get r.deliveries (code, n)) (s
     (λ x at. ((λ i. delivery_key (at.part i) (at.number i)), at.within))
 
 -- ---- what is read
+
+-- this is what the tables have under the command's keys
+abbrev pub ReadsKeys : Content → (command : RecordCommand) → Standing command → Type 0
+ReadsKeys tables (Inspect id asked) there = ReadsAt tables (Inspection id asked.number) there
+ReadsKeys tables (OpenOrder id asked) there = ReadsAt tables (Order id asked.number) there
+ReadsKeys tables (UsePart id asked) (there, order, hand) =
+    ReadsAt tables (Line id asked.order asked.line) there
+    × ReadsAt tables (Order id asked.order) order × ReadsAt tables (Part asked.part) hand
+ReadsKeys tables (CloseOrder id number asked) there = ReadsAt tables (Order id number) there
+ReadsKeys tables (Receive asked) (there, hand) =
+    ReadsAt tables (Delivery asked.part asked.number) there × ReadsAt tables (Part asked.part) hand
 
 module _ (tables : Content) (r : Register) (stands : RegisterStandsSound tables r) where
   pub register_reads : (place : Place) → ReadsAt tables place (held_in r place)

@@ -3,24 +3,36 @@ ghost use Rattle.std.specs.Prelude.{◌≡◌, []};
 ghost use Rattle.office_tables_decisions.specs.Reads.{OnlyReads};
 ghost use Rattle.office_desk_cabinet.specs.Decides.{DecidesRecord};
 
-use crate::pending::Pending;
-use crate::registered::Registered;
+use crate::pending::{Pending, record_at};
 use crate::rows::report_record;
-use crate::standing::record_at;
 use crate::stocking::{decide_receive, decide_use_part};
 use cabinet_core::{RecordCommand, close_order, inspect, open_order};
+use office_machine::refusal::Refusal;
 use office_tables_shelf::register::{RegisterKey, RegisterRecord};
+use office_tables_shelf::rows::RowChange;
 use office_tables_shelf::shelf::{Shelf, ShelfFault};
 use std::alloc::Global;
 
+/// What comes of a record of the register.
+#[derive(Clone, Copy)]
+pub enum Taken {
+    /// The record is new: it is added.
+    Added,
+    /// An equal record is there: nothing is added.
+    Same,
+    /// The record is refused, for this reason.
+    Refused(Refusal),
+}
+
 /// Decides a command of the register, on what the shelf will hold once the pending rows are
-/// written, in their order. The caller tests that the intersection is there.
+/// written, and gives the rows that it adds. The caller tests that the intersection is there. Want
+/// of memory is no refusal here, but the fault `ShelfFault::NoMemory`.
 pub fn decide_record<S: Shelf>(
     shelf: &mut S,
     alloc: Global,
     pending: &Pending,
     command: &RecordCommand,
-) -> Result<Registered, ShelfFault>
+) -> Result<(Taken, Vec<RowChange>), ShelfFault>
     ensures decides { DecidesRecord (S.is_honest shelf.new) (S.content shelf.old) pending.now
         command.now result }
     ensures reads { OnlyReads S.Shelf (pending.now ≡ []) result shelf.old shelf.new }

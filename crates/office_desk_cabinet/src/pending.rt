@@ -1,11 +1,15 @@
-//! Rows of the register that are to be written, and what they put under its keys.
-ghost use Rattle.std.specs.Prelude.{◌≡◌, ◌++◌, [], IfOk, IfSome};
-ghost use Rattle.office_tables_shelf.specs.Places.{IsOfPlace, found_at, place_of};
-ghost use Rattle.office_desk_cabinet.specs.Puts.{Puts};
+//! Rows of the register that are to be written, and what stands under its keys once they are.
+ghost use Rattle.std.specs.Prelude.{◌≡◌, ◌++◌, [], IfOk, IfSome, filter, map};
+ghost use Rattle.office_tables_shelf.specs.Change.{changed_by};
+ghost use Rattle.office_tables_shelf.specs.Places.{DamagedAt, IsOfPlace, ReadsAt, found_at, place_of};
+ghost use Rattle.office_tables_decisions.specs.Reads.{OnlyReads, Reports};
+ghost use Rattle.office_desk_cabinet.specs.Pending.{ComesTo, is_other, part_row};
 
+use cabinet_core::{Hand, PartCode};
 use office_tables_maps::maps::Maps;
 use office_tables_shelf::register::{RegisterKey, RegisterRecord};
 use office_tables_shelf::rows::RowChange;
+use office_tables_shelf::shelf::{Shelf, ShelfFault};
 use signal_records::NoMemory;
 use std::alloc::Global;
 use std::marker::Model;
@@ -58,24 +62,55 @@ impl Pending {
         Ok(Pending { changes, puts })
     }
 
-    /// The rows that are to be written, in their order.
-    pub fn into_changes(self) -> Vec<RowChange>
-        ensures { result.items ≡ self }
+    /// Rows that come to the same: first one for each part, with its last number, since used parts
+    /// and deliveries refer to their part, and then the others in their order.
+    pub fn into_changes(self, alloc: Global) -> Result<Vec<RowChange>, NoMemory>
+        ensures { IfOk result (λ rows. ComesTo self rows.items) }
     {
-        let Pending { changes, .. } = self;
-        changes
+        let Pending { mut changes, puts } = self;
+        let mut rows = part_rows(alloc, puts.parts(alloc)?)?;
+        changes.retain(|change| is_other(change));
+        rows.append(&mut changes)?;
+        Ok(rows)
     }
+}
 
-    /// The record that the rows put last under a key of the register, if they put one.
-    pub(crate) fn record_at(
-        &self,
-        key: &RegisterKey<'_>,
-    ) -> Result<Option<RegisterRecord>, NoMemory>
-        ensures put { IfOk result (λ put.
-            Puts (place_of key.now) self.now (found_at (place_of key.now) put)) }
-        ensures within { IfOk result (λ put. IfSome put (IsOfPlace (place_of key.now))) }
-    {
-        let put = self.puts.record_at(key)?;
-        Ok(put)
+/// A row for each part, with how many are on hand.
+fn part_rows(alloc: Global, parts: Vec<(PartCode, Hand)>) -> Result<Vec<RowChange>, NoMemory>
+    ensures { IfOk result (λ rows. rows.items ≡ map part_row parts.items) }
+{
+    let mut rows = Vec::new(alloc);
+    for (code, hand) in parts {
+        rows.push(RowChange::PutPart(code, hand))?;
     }
+    Ok(rows)
+}
+
+/// Whether a change is of another table than that of the parts.
+fn is_other(change: &RowChange) -> bool
+    ensures { result ≡ is_other change.now }
+{
+    !matches!(change, RowChange::PutPart(..))
+}
+
+/// The record under a key of the register once the pending rows are written, if there is one. The
+/// stored row is read only where they put none there.
+pub fn record_at<S: Shelf>(
+    shelf: &mut S,
+    alloc: Global,
+    pending: &Pending,
+    key: &RegisterKey<'_>,
+) -> Result<Option<RegisterRecord>, ShelfFault>
+    ensures row { Reports (S.is_honest shelf.new) result
+        (λ there. ReadsAt (changed_by (S.content shelf.old) pending.now) (place_of key.now)
+        (found_at (place_of key.now) there))
+        (DamagedAt (S.content shelf.old) (place_of key.now)) }
+    ensures within { IfOk result (λ there. IfSome there (IsOfPlace (place_of key.now))) }
+    ensures reads { OnlyReads S.Shelf (pending.now ≡ []) result shelf.old shelf.new }
+{
+    if let Some(put) = pending.puts.record_at(key)? {
+        return Ok(Some(put));
+    }
+    let before = shelf.record_at(alloc, key)?;
+    Ok(before)
 }

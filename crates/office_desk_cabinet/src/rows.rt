@@ -1,9 +1,10 @@
 //! How a decision of the register is told, with its changes as rows.
-ghost use Rattle.std.specs.Prelude.{◌≡◌, IfOk, OnErr};
-ghost use Rattle.office_desk_cabinet.specs.Telling.{Tells, WantsMemory, order_row_of, row_change_of, row_changes_of};
+ghost use Rattle.std.specs.Prelude.{◌≡◌, IfOk};
+ghost use Rattle.office_desk_cabinet.specs.Telling.{Tells, order_row_of, row_change_of, row_changes_of};
 
-use crate::registered::Registered;
+use crate::deciding::Taken;
 use cabinet_core::{CabinetChange, CabinetRefusal, Order, Recorded};
+use office_machine::refusal::Refusal;
 use office_tables_shelf::rows::RowChange;
 use office_tables_shelf::shelf::ShelfFault;
 use signal_records::{InterId, NoMemory};
@@ -58,18 +59,16 @@ pub(crate) fn report_record(
     alloc: Global,
     about: Option<InterId>,
     decision: Result<Recorded, CabinetRefusal>,
-) -> Result<Registered, ShelfFault>
-    ensures tells { IfOk result (λ told. Tells (row_changes_of about) decision told) }
-    ensures fault { OnErr result (result ≡ Err ShelfFault.NoMemory) }
-    ensures wants { OnErr result (WantsMemory decision) }
+) -> Result<(Taken, Vec<RowChange>), ShelfFault>
+    ensures { Tells about decision result }
 {
     match decision {
         Ok(Recorded::Added(changes)) => {
             let rows = row_changes(alloc, &about, changes)?;
-            Ok(Registered::Added(rows))
+            Ok((Taken::Added, rows))
         }
-        Ok(Recorded::Same) => Ok(Registered::Same),
+        Ok(Recorded::Same) => Ok((Taken::Same, Vec::new(alloc))),
         Err(CabinetRefusal::NoMemory) => Err(ShelfFault::NoMemory),
-        Err(refusal) => Ok(Registered::Refused(refusal)),
+        Err(refusal) => Ok((Taken::Refused(Refusal::Cabinet(refusal)), Vec::new(alloc))),
     }
 }

@@ -8,12 +8,12 @@ ghost use Rattle.office_tables_decisions.specs.Reads.{OnlyReads, Reports};
 ghost use Rattle.office_desk_cabinet.specs.RegisterStands.{RegisterStandsSound};
 ghost use Rattle.office_desk_cabinet.specs.Decides.{DecidesRecord};
 
-use crate::pending::Pending;
-use crate::registered::Registered;
+use crate::deciding::Taken;
+use crate::pending::{Pending, record_at};
 use crate::rows::report_record;
-use crate::standing::record_at;
 use cabinet_core::{Delivery, Hand, PartCode, RecordCommand, UsedLine, receive, use_part};
 use office_tables_shelf::register::{RegisterKey, RegisterRecord};
+use office_tables_shelf::rows::RowChange;
 use office_tables_shelf::shelf::{Shelf, ShelfFault};
 use signal_records::InterId;
 use std::alloc::Global;
@@ -26,7 +26,7 @@ pub(crate) fn decide_use_part<S: Shelf>(
     pending: &Pending,
     id: InterId,
     line: &UsedLine,
-) -> Result<Registered, ShelfFault>
+) -> Result<(Taken, Vec<RowChange>), ShelfFault>
     ensures decides { DecidesRecord (S.is_honest shelf.new) (S.content shelf.old) pending.now
         (RecordCommand.UsePart id line.now) result }
     ensures reads { OnlyReads S.Shelf (pending.now ≡ []) result shelf.old shelf.new }
@@ -48,7 +48,7 @@ pub(crate) fn decide_receive<S: Shelf>(
     alloc: Global,
     pending: &Pending,
     delivery: &Delivery,
-) -> Result<Registered, ShelfFault>
+) -> Result<(Taken, Vec<RowChange>), ShelfFault>
     ensures decides { DecidesRecord (S.is_honest shelf.new) (S.content shelf.old) pending.now
         (RecordCommand.Receive delivery.now) result }
     ensures reads { OnlyReads S.Shelf (pending.now ≡ []) result shelf.old shelf.new }

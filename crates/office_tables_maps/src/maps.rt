@@ -1,7 +1,7 @@
 //! The eight tables in memory, as maps of records.
 ghost use Rattle.std.specs.Prelude.{◌≡◌, OnOk, IfOk, IfSome};
 
-use crate::kept::{copied_rows, find, put, remove};
+use crate::kept::{copied_rows, find, list_all, put, remove};
 use crate::under::drop_under;
 use cabinet_core::{Delivery, Hand, Inspection, Order, PartCode, UsedLine};
 use office_tables_shelf::register::{RegisterKey, RegisterRecord};
@@ -41,6 +41,7 @@ impl Model for Maps {
 
 impl Maps {
     ghost use Rattle.office_tables_shelf.specs.Places.{FindsAt, IsOfPlace, place_of};
+    ghost use Rattle.office_tables_shelf.specs.CabinetReads.{ListsParts};
     ghost use Rattle.office_tables_shelf.specs.Content.{no_content};
     ghost use Rattle.office_tables_shelf.specs.Change.{changed, changed_by};
 
@@ -145,6 +146,14 @@ impl Maps {
                 Ok(found.map(RegisterRecord::Delivery))
             }
         }
+    }
+
+    /// The parts, in the order of their codes, with how many are on hand of each. `NoMemory` means
+    /// that a growth was really refused.
+    pub fn parts(&self, alloc: Global) -> Result<Vec<(PartCode, Hand)>, NoMemory>
+        ensures { IfOk result (λ parts. ListsParts self.now parts.items) }
+    {
+        list_all(alloc, &self.part)
     }
 
     /// These tables with the changes made, in their order.
