@@ -91,8 +91,10 @@ nothing_yet stored all = record { imports = λ office stands. follows_none store
 module _ (stored : Content) (all : List RecordCommand) (index added same : ℕ) (pending rows : List RowChange) (c : RecordCommand) (t : Taken)
     (so_far : SoFar stored all index added same pending) (next : IsNext all index c) (takes : TakesNext stored pending c t rows) where
   -- where the record is new, and where it is there
-  abbrev if_new if_old : Office → Result (ℕ × ℕ × Office) Refusal
+  abbrev if_new : Office → Result (ℕ × ℕ × Office) Refusal
   if_new now = import_from (index + 1 + 1) (added + 1) same (with_recorded now c) (drop (index + 1) all)
+
+  abbrev if_old : Office → Result (ℕ × ℕ × Office) Refusal
   if_old now = import_from (index + 1 + 1) added (same + 1) now (drop (index + 1) all)
 
   goes_further : (now : Office) (added_now same_now : ℕ) → WentOn t added same added_now same_now
@@ -163,6 +165,10 @@ taken_reads g reads pending index given result old mid new fresh before taken te
 
 pub none_next : (records : List RecordCommand) (n : ℕ) (c : RecordCommand) → IsNext records n c → records ≢ []
 none_next records n c next none = let few = ap (λ (list : List RecordCommand). length list) none in omega (arith, next.low, few)
+
+-- of no records none was taken
+pub none_taken : (all list : List RecordCommand) (index : ℕ) → list ≡ all → index ≤ length list → all ≡ [] → index ≡ 0
+none_taken all list index same low none = let size = ap (λ (list : List RecordCommand). length list) (same ∙ none) in omega (arith, size, low)
 
 -- after the last of some records, some were read
 pub some_read : (records : List RecordCommand) (n : ℕ) → length records ≤ n → records ≢ [] → n ≢ 0

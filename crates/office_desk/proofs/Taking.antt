@@ -1,12 +1,11 @@
 -- A record that was taken, as an office takes it.
-use Rattle.std.proofs.Common.{◌≡◌, ◌∙◌, ◌++◌, true, false, List, [], Ok, Err, refl, ap, sym, subst, arith}
-use Rattle.std.specs.Prelude.{IsSome, Vec}
+use Rattle.std.proofs.Common.{◌≡◌, ◌∙◌, ◌++◌, true, false, List, [], refl, ap, sym, subst, arith}
+use Rattle.std.specs.Prelude.{IsSome}
 use Rattle.cabinet_core.specs.{Register.Register, Step.line_at, declared.command.RecordCommand.RecordCommand, declared.refusal.CabinetRefusal.CabinetRefusal}
 use Rattle.office_tables_shelf.specs.{Change.changed_by, Content.Content, declared.rows.RowChange.RowChange}
-use Rattle.office_tables_shelf.specs.declared.shelf.ShelfFault.{ShelfFault, TheVariants.Damaged}
 use Rattle.office_tables_decisions.specs.Damage.{MeetsRecordDamage}
 use Rattle.office_tables_decisions.proofs.Decisions.{refuses_so}
-use Rattle.office_desk_cabinet.specs.Decides.{DecidesRecord, TakesRecord, WritesRecord, register_with, taken_by}
+use Rattle.office_desk_cabinet.specs.Decides.{TakesRecord, WritesRecord, register_with, taken_by}
 use Rattle.office_desk_cabinet.specs.declared.deciding.Taken.{Taken}
 use Rattle.office_desk_cabinet.specs.declared.deciding.Taken.TheVariants.{Refused}
 use Rattle.office_desk_cabinet.proofs.PendingLemmas.{changed_append}
@@ -70,9 +69,9 @@ damage_met stored pending c (Refused (Cabinet why)) rows takes damage =
 damage_met stored pending c _ rows takes damage = absurd damage
 
 -- of a record that is decided, where its intersection was found to be there before
-module _ {A : Type 0} (is_honest : Type 0) (stored mid : Content) (pending : List RowChange) (c : RecordCommand) (same : is_honest → mid ≡ stored) (there : is_honest → TellsIntersection stored (cabinet_of c) true) where
-  pub known_takes : (told : Taken × Vec RowChange A) → DecidesRecord is_honest mid pending c (Ok told) → is_honest → TakesNext stored pending c told.0 told.1.items
-  known_takes told decides honest = (true, there honest, subst (λ tables. TakesRecord true (changed_by tables pending) c told.0 told.1.items) (same honest) (decides.0 honest))
+module _ (is_honest : Type 0) (stored mid : Content) (pending : List RowChange) (c : RecordCommand) (same : is_honest → mid ≡ stored) (there : is_honest → TellsIntersection stored (cabinet_of c) true) where
+  pub known_takes : (t : Taken) (rows : List RowChange) → (is_honest → TakesRecord true (changed_by mid pending) c t rows) → is_honest → TakesNext stored pending c t rows
+  known_takes t rows takes honest = (true, there honest, subst (λ tables. TakesRecord true (changed_by tables pending) c t rows) (same honest) (takes honest))
 
-  pub known_damage : (fault : ShelfFault) → DecidesRecord {A = A} is_honest mid pending c (Err fault) → fault ≡ Damaged → is_honest → MeetsCabinetDamage stored c (cabinet_of c)
-  known_damage fault decides damaged honest = meets_record stored c (cabinet_of c) (there honest).told (subst (λ tables. MeetsRecordDamage tables c) (same honest) (decides damaged honest))
+  pub known_damage : (is_honest → MeetsRecordDamage mid c) → is_honest → MeetsCabinetDamage stored c (cabinet_of c)
+  known_damage damage honest = meets_record stored c (cabinet_of c) (there honest).told (subst (λ tables. MeetsRecordDamage tables c) (same honest) (damage honest))

@@ -35,6 +35,8 @@ pub(crate) fn is_found<S: Shelf>(
     if !is_known(shelf, alloc, about)? {
         return Ok(false);
     }
-    found.insert(id)?;
-    Ok(true)
+    match found.insert(id) {
+        Ok(_) => Ok(true),
+        Err(_) => Err(ShelfFault::NoMemory),
+    }
 }

@@ -1,7 +1,7 @@
 -- What stands under a key of the register after rows are written, and rows that come to the same with one for each part.
 use Rattle.std.proofs.Common.{◌≡◌, ◌≢◌, ◌≤◌, ◌+◌, ℕ, Bool, true, false, List, [], ◌∷◌, ◌++◌, map, filter, length, cond, Option, Some, None, Less, T, option_map, refl, sym, ap, subst, subst₂, ◌∙◌, inl, inr, arith}
 use Rattle.std.proofs.lemmas.Bool.{cases_Bool}
-use Rattle.std.proofs.lemmas.List.{length-map, nil_from_length}
+use Rattle.std.proofs.lemmas.List.{length-map}
 use Rattle.std.specs.{Prelude.IsSome, FinMap.contains_key, FinMap.entries, FinMap.entries_sorted, FinMap.get, FinMap.get-empty, FinMap.get-entries, FinMap.get-insert, FinMap.insert, FinMap.len, FinMap.len-entries, FinMap.len-insert, FinMap.len-empty, FinMap.same_map, FinMap.Entries.below_all, FinMap.Entries.find, FinMap.Entries.is_sorted, Option.option_or, Ordering.eq_by_cmp}
 use Rattle.office_tables_shelf.proofs.{CellLemmas.cells_exact, CellLemmas.cells_total, CellLemmas.tied, ListLemmas.less, ListLemmas.parts}
 use Rattle.office_tables_shelf.specs.CabinetReads.{ListsParts}
@@ -96,12 +96,11 @@ seen place viewed made is = subst₂ (λ t o. ReadsAt t place (found_at place o)
 
 -- where a record is put, there are rows
 pub some_put : (place : Place) (changes : List RowChange) (it : RegisterRecord) → IsOfPlace place it → ReadsAt (changed_by no_content changes) place (found_at place (Some it)) → changes ≢ []
-some_put place [] it within puts none = go (found_at place (Some it)) (found_some place it within) (sym (nothing_at place (key_cells place)) ∙ puts.stored)
-  where
-    go : (o : Option (RecordAt place)) → IsSome o → None ≡ option_map (columns_at place) o → ⊥
-    go (Some x) some is = cc
-    go None some is = cc
-some_put place (change ∷ changes) it within puts none = cc
+some_put place changes it within puts none =
+    let nothing : option_map (columns_at place) (found_at place (Some it)) ≡ None =
+    sym puts.stored ∙ ap (λ rows. at (changed_by no_content rows) place (key_cells place)) none ∙ nothing_at place (key_cells place) in
+    let never : Some [] ≡ None =
+    ap (λ o. option_or o (Some [])) (sym nothing) ∙ covers (columns_at place) (found_at place (Some it)) (Some []) (found_some place it within) ∙ nothing in cc
 
 pub changed_append : (tables : Content) (changes later : List RowChange) → changed_by tables (changes ++ later) ≡ changed_by (changed_by tables changes) later
 changed_append tables [] later = refl
@@ -167,18 +166,15 @@ parts_written [] (PutPart code hand ∷ rows) = parts_written [] rows
 parts_written [] (row ∷ rows) = let rest = parts_written [] rows in omega arith
 parts_written [] [] = refl
 
-others_few : (t : Table) (rows : List RowChange) → writes_in t (filter is_other rows) ≤ writes_in t rows
-others_few t [] = omega arith
-others_few t (PutPart code hand ∷ rows) = let rest = others_few t rows in omega arith
-others_few t (row ∷ rows) = let rest = others_few t rows in omega arith
-
--- in any other table than that of the parts
-elsewhere : (t : Table) (list : List (List ℕ × ℕ)) (rows : List RowChange) → is_same_table table.Part t ≡ false → writes_in t (map part_row list ++ rows) ≡ writes_in t rows
-elsewhere t [] rows other = refl
-elsewhere t (part ∷ list) rows other =
+-- of any other table than that of the parts no more than before
+others_few : (t : Table) (list : List (List ℕ × ℕ)) (rows : List RowChange) → is_same_table table.Part t ≡ false → writes_in t (map part_row list ++ filter is_other rows) ≤ writes_in t rows
+others_few t (part ∷ list) rows other =
     let none = ap (λ b. cond {A = ℕ} b 1 0) other in
-    let rest = elsewhere t list rows other in
+    let rest = others_few t list rows other in
     omega arith
+others_few t [] [] other = omega arith
+others_few t [] (PutPart code hand ∷ rows) other = let rest = others_few t [] rows other in omega arith
+others_few t [] (row ∷ rows) other = let rest = others_few t [] rows other in omega arith
 
 -- a row more at most
 insert_few : (rows : TableRows) (k columns : List Cell) → len (insert rows k columns) ≤ len rows + 1
@@ -197,6 +193,14 @@ parts_few tables (row ∷ rows) = let rest = parts_few (changed tables row) rows
 
 -- ---- the rows of parts, and then the others
 
+pub none_come : ComesTo [] []
+none_come = record {
+  makes = λ tables. refl;
+  writes = λ t. omega arith;
+  once = sym (len-empty cells_cmp (List Cell));
+  news = λ tables news. news;
+}
+
 module _ (pending : List RowChange) (list : List (List ℕ × ℕ)) (lists : ListsParts (changed_by no_content pending) list) where
   abbrev rows : List RowChange
   rows = map part_row list ++ filter is_other pending
@@ -213,27 +217,18 @@ module _ (pending : List RowChange) (list : List (List ℕ × ℕ)) (lists : Lis
   counted : length list ≡ len (changed_by no_content pending).part
   counted = sym (length-map list cells) ∙ ap (λ (es : List Entry). length es) lists ∙ sym (len-entries (changed_by no_content pending).part)
 
-  none : pending ≡ [] → rows ≡ []
-  none is =
-      let no_part = counted ∙ ap (λ p. len (changed_by no_content p).part) is ∙ len-empty cells_cmp (List Cell) in
-      λ i. map part_row (nil_from_length list no_part i) ++ filter is_other (is i)
-
   few : (t : Table) → writes_in t rows ≤ writes_in t pending
   few table.Part =
       let written = parts_written list pending in
       let most = parts_few no_content pending in
       let nothing = len-empty cells_cmp (List Cell) in
       omega (arith, counted)
-  few t =
-      let others = others_few t pending in
-      let same = elsewhere t list (filter is_other pending) refl in
-      omega arith
+  few t = others_few t list pending refl
 
   pub comes_to : ComesTo pending rows
   comes_to = record {
     makes = λ tables. changed_append tables (map part_row list) (filter is_other pending) ∙ ap (λ t. changed_by t (filter is_other pending)) (parts_first tables) ∙ sym (split tables pending);
     writes = few;
     once = parts_written list pending ∙ counted;
-    none = none;
     news = λ tables news. parts_news tables list (filter is_other pending) (subst (λ t. AddNew t (filter is_other pending)) (sym (parts_first tables)) (split_news _ tables pending news));
   }

@@ -1,5 +1,5 @@
 -- Rows that come to the same as those that are pending, with one row for each part.
-use Rattle.std.specs.Prelude.{◌≡◌, ◌≤◌, ℕ, Bool, true, false, List, []}
+use Rattle.std.specs.Prelude.{◌≡◌, ◌≤◌, ℕ, Bool, true, false, List}
 use Rattle.std.specs.FinMap.{len}
 use Rattle.office_tables_shelf.specs.Change.{AddNew, changed_by}
 use Rattle.office_tables_shelf.specs.Content.{Content, no_content}
@@ -24,5 +24,4 @@ pub record ComesTo (pending rows : List RowChange) : Type 0 where
   pub makes : (tables : Content) → changed_by tables rows ≡ changed_by tables pending
   pub writes : (t : Table) → writes_in t rows ≤ writes_in t pending
   pub once : writes_in table.Part rows ≡ len (changed_by no_content pending).part
-  pub none : pending ≡ [] → rows ≡ []
   pub news : (tables : Content) → AddNew tables pending → AddNew tables rows

@@ -1,11 +1,10 @@
 //! Rows of the register that are to be written, and what stands under its keys once they are.
-ghost use Rattle.std.specs.Prelude.{◌≡◌, ◌++◌, [], IfOk, IfSome, filter, map};
+ghost use Rattle.std.specs.Prelude.{◌≡◌, ◌++◌, [], IfOk, IfSome, IsOkAnd};
 ghost use Rattle.office_tables_shelf.specs.Change.{changed_by};
 ghost use Rattle.office_tables_shelf.specs.Places.{DamagedAt, IsOfPlace, ReadsAt, found_at, place_of};
 ghost use Rattle.office_tables_decisions.specs.Reads.{OnlyReads, Reports};
-ghost use Rattle.office_desk_cabinet.specs.Pending.{ComesTo, is_other, part_row};
+ghost use Rattle.office_desk_cabinet.specs.Pending.{ComesTo};
 
-use cabinet_core::{Hand, PartCode};
 use office_tables_maps::maps::Maps;
 use office_tables_shelf::register::{RegisterKey, RegisterRecord};
 use office_tables_shelf::rows::RowChange;
@@ -65,32 +64,20 @@ impl Pending {
     /// Rows that come to the same: first one for each part, with its last number, since used parts
     /// and deliveries refer to their part, and then the others in their order.
     pub fn into_changes(self, alloc: Global) -> Result<Vec<RowChange>, NoMemory>
-        ensures { IfOk result (λ rows. ComesTo self rows.items) }
+        ensures comes { IfOk result (λ rows. ComesTo self rows.items) }
+        ensures none { self ≡ [] → IsOkAnd result (λ rows. rows.items ≡ []) }
     {
         let Pending { mut changes, puts } = self;
-        let mut rows = part_rows(alloc, puts.parts(alloc)?)?;
-        changes.retain(|change| is_other(change));
+        if changes.as_slice().is_empty() {
+            return Ok(changes);
+        }
+        let parts = puts.parts(alloc)?.into_iter();
+        let rows = parts.map(|(code, hand)| RowChange::PutPart(code, hand));
+        let mut rows: Vec<RowChange> = rows.collect(alloc)?;
+        changes.retain(|change| !matches!(change, RowChange::PutPart(..)));
         rows.append(&mut changes)?;
         Ok(rows)
     }
-}
-
-/// A row for each part, with how many are on hand.
-fn part_rows(alloc: Global, parts: Vec<(PartCode, Hand)>) -> Result<Vec<RowChange>, NoMemory>
-    ensures { IfOk result (λ rows. rows.items ≡ map part_row parts.items) }
-{
-    let mut rows = Vec::new(alloc);
-    for (code, hand) in parts {
-        rows.push(RowChange::PutPart(code, hand))?;
-    }
-    Ok(rows)
-}
-
-/// Whether a change is of another table than that of the parts.
-fn is_other(change: &RowChange) -> bool
-    ensures { result ≡ is_other change.now }
-{
-    !matches!(change, RowChange::PutPart(..))
 }
 
 /// The record under a key of the register once the pending rows are written, if there is one. The

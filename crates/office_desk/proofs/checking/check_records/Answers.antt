@@ -24,7 +24,26 @@ check_record-requires g c = λ honest.
     subst (λ tables. AreFound tables c.loop-command.found) (sym (kept.same_content honest)) (c.loop-command.invariant.found honest)
 
 pub loop-command-preserved : goal.loop-command-preserved
-loop-command-preserved g c = ?
+loop-command-preserved g c =
+    let all = c.args.records.now in
+    let index = c.loop-command.command-index in
+    let item = c.command-item.result in
+    let inv = c.loop-command.invariant in
+    let before = c.loop-command.pending in
+    let came = c.in_ok-one.ensures in
+    let next = is_next index item refl c.loop-command-test.true c.command-item.is in
+    record {
+      so_far = λ honest.
+          let first = c.check_record.ensures.reads.kept.honest_before honest in
+          subst (λ p. CheckedSoFar (g.S.Shelf.content c.args.shelf.now) all (index + 1) p c.keep.new.checked.items) (sym c.in_ok-pending.ensures)
+          (checked_more (g.S.Shelf.content c.args.shelf.now) all index before c.in_ok-one.rows.items c.loop-command.checked.items _ item c.in_ok-one.one (inv.so_far first) next
+          (subst (λ tables. ChecksRecord tables before item c.in_ok-one.one c.in_ok-one.rows.items) (inv.reads.kept.same_content first) (came.checks honest)) c.in_ok-keep.ensures);
+      found = λ honest.
+          let first = c.check_record.ensures.reads.kept.honest_before honest in
+          subst (λ tables. AreFound tables c.check_record.new.found) (inv.reads.kept.same_content first) (came.found honest);
+      fresh = λ start. absurd (let e : index + 1 ≡ 0 = start in let never : ⊥ = omega (arith, e) in never);
+      reads = taken_reads g.S.Shelf _ before index _ _ _ _ _ inv.fresh inv.reads came.reads (λ told. tt);
+    }
 
 pub returns-in_err-one-clause-checks : goal.returns-in_err-one-clause-checks
 returns-in_err-one-clause-checks g c = handed_reports _ _ _ _ _ c.from_residual.ensures.1 (λ damaged honest.

@@ -10,7 +10,7 @@ use Rattle.office_desk.proofs.importing.take_record.Goals as goal
 
 pub returns-then-not-branch-clause-takes : goal.returns-then-not-branch-clause-takes
 returns-then-not-branch-clause-takes g c = λ honest.
-    subst (TakesNext _ _ _ _) (sym c.new.ensures.items)
+    subst (TakesNext (g.S.Shelf.content c.args.shelf.now) c.args.pending.now _ _) (sym c.new.ensures.items)
     (false, about_tells _ _ _ _ _ c.cabinet_of.ensures c.if-not-branch.true (c.in_ok-is_found.ensures.tells honest), takes_unknown _ c.args.command.now)
 
 pub returns-then-not-branch-clause-within : goal.returns-then-not-branch-clause-within
@@ -32,8 +32,8 @@ returns-in_err-is_found-clause-reads g c =
 pub returns-clause-takes : goal.returns-clause-takes
 returns-clause-takes g c = λ honest.
     let first = c.decide_record.ensures.reads.kept.honest_before honest in
-    known_takes _ _ _ _ _ (λ honest. c.is_found.ensures.reads.kept.same_content first)
-    (λ honest. about_tells _ _ _ _ _ c.cabinet_of.ensures c.if-not-branch.false (c.in_ok-is_found.ensures.tells first)) c.in_ok-taken.taken c.in_ok-taken.ensures.decides honest
+    known_takes _ (g.S.Shelf.content c.args.shelf.now) _ c.args.pending.now _ (λ honest. c.is_found.ensures.reads.kept.same_content first)
+    (λ honest. about_tells _ _ _ _ _ c.cabinet_of.ensures c.if-not-branch.false (c.in_ok-is_found.ensures.tells first)) _ _ c.in_ok-taken.ensures.decides.0 honest
 
 pub returns-clause-within : goal.returns-clause-within
 returns-clause-within g c = c.in_ok-taken.ensures.decides.1
@@ -44,5 +44,5 @@ returns-clause-found g c = λ honest. c.in_ok-is_found.ensures.found (c.decide_r
 pub returns-in_err-taken-clause-takes : goal.returns-in_err-taken-clause-takes
 returns-in_err-taken-clause-takes g c = handed_reports _ _ _ _ _ c.from_residual-in_err-taken.ensures.1 (λ damaged honest.
     let first = c.decide_record.ensures.reads.kept.honest_before honest in
-    known_damage _ _ _ _ _ (λ honest. c.is_found.ensures.reads.kept.same_content first)
-    (λ honest. about_tells _ _ _ _ _ c.cabinet_of.ensures c.if-not-branch.false (c.in_ok-is_found.ensures.tells first)) _ c.in_err-taken.ensures.decides damaged honest)
+    known_damage _ (g.S.Shelf.content c.args.shelf.now) _ c.args.pending.now _ (λ honest. c.is_found.ensures.reads.kept.same_content first)
+    (λ honest. about_tells _ _ _ _ _ c.cabinet_of.ensures c.if-not-branch.false (c.in_ok-is_found.ensures.tells first)) (c.in_err-taken.ensures.decides damaged) honest)

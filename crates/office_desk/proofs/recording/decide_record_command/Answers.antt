@@ -18,12 +18,12 @@ returns-clause-decides g c =
     record_decides _ (g.S.Shelf.content c.args.shelf.now) c.args.command.now c.in_ok-taken.taken c.new-pending.result c.in_ok-taken.changes.items _ c.new-pending.ensures
     c.reply_to-reply.ensures refl (λ honest.
     let first = c.decide_record.ensures.reads.kept.honest_before honest in
-    known_takes _ _ _ _ _ (λ honest. c.is_known.ensures.reads.kept.same_content first)
-    (λ honest. about_tells _ _ _ _ _ c.cabinet_of.ensures c.if-not-branch.false (c.in_ok-is_known.ensures.tells first)) (c.in_ok-taken.taken, c.in_ok-taken.changes) c.in_ok-taken.ensures.decides honest)
+    known_takes _ (g.S.Shelf.content c.args.shelf.now) _ c.new-pending.result _ (λ honest. c.is_known.ensures.reads.kept.same_content first)
+    (λ honest. about_tells _ _ _ _ _ c.cabinet_of.ensures c.if-not-branch.false (c.in_ok-is_known.ensures.tells first)) _ _ c.in_ok-taken.ensures.decides.0 honest)
     c.in_ok-taken.ensures.decides.1
 
 pub returns-in_err-taken-clause-decides : goal.returns-in_err-taken-clause-decides
 returns-in_err-taken-clause-decides g c = handed_decides _ _ _ _ _ c.from_residual-in_err-taken.ensures.1 (λ damaged honest.
     let first = c.decide_record.ensures.reads.kept.honest_before honest in
-    known_damage _ _ _ _ _ (λ honest. c.is_known.ensures.reads.kept.same_content first)
-    (λ honest. about_tells _ _ _ _ _ c.cabinet_of.ensures c.if-not-branch.false (c.in_ok-is_known.ensures.tells first)) _ c.in_err-taken.ensures.decides damaged honest)
+    known_damage _ (g.S.Shelf.content c.args.shelf.now) _ c.new-pending.result _ (λ honest. c.is_known.ensures.reads.kept.same_content first)
+    (λ honest. about_tells _ _ _ _ _ c.cabinet_of.ensures c.if-not-branch.false (c.in_ok-is_known.ensures.tells first)) (c.in_err-taken.ensures.decides damaged) honest)
