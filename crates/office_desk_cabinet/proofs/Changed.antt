@@ -3,19 +3,13 @@ use Rattle.std.proofs.Common.{◌≡◌, ℕ, List, cond, Option, Some, None, na
 use Rattle.std.proofs.lemmas.Cmp.{nat_list_cmp_total}
 use Rattle.std.specs.FinMap.{FinMap, entries, get-insert, insert, same_map, nat_cmp-IsAntisymmetric, slice_cmp-IsAntisymmetric}
 use Rattle.std.specs.Cmp.Lexicographic.{slice_cmp}
-use Rattle.cabinet_core.specs.Cabinet.{record_of, with_closing}
-use Rattle.cabinet_core.specs.Changes.{ChangesMake, hand_told}
-use Rattle.cabinet_core.specs.Step.{Standing, with_record}
-use Rattle.cabinet_core.specs.{Register.Register, Stock.hand_of, Stock.stock_by_code, Stock.stock_of}
-use Rattle.cabinet_core.specs.declared.{command.RecordCommand.RecordCommand, decide.CabinetChange.TheVariants.PutPart, record.Order.Order}
+use Rattle.cabinet_core.specs.{Cabinet.record_of, Cabinet.with_closing, Changes.ChangesMake, Changes.hand_told, Step.Standing, Step.with_record, Register.Register, Stock.hand_of, Stock.stock_by_code, Stock.stock_of, declared.command.RecordCommand.RecordCommand, declared.decide.CabinetChange.TheVariants.PutPart, declared.record.Order.Order}
 use Rattle.cabinet_core.specs.declared.command.RecordCommand.TheVariants.{Inspect, OpenOrder, UsePart, CloseOrder, Receive}
 use Rattle.cabinet_core.proofs.KeyOrders.{record_total, line_total, delivery_total, codes_tie}
 use Rattle.cabinet_core.proofs.{Made.changes_on, Made.place_or, StockList.stock_has}
 use Rattle.office_tables_shelf.specs.CabinetRows.{inspection_key, inspection_columns, order_key, order_columns, used_key, used_columns, delivery_key, delivery_columns, part_key, part_columns}
-use Rattle.office_tables_shelf.specs.{Cells.TableRows, Cells.tree_rows, Change.changed, Change.changed_by, Content.Content}
-use Rattle.office_tables_shelf.specs.declared.rows.RowChange.{RowChange, TheVariants.PutOrder}
-use Rattle.office_tables_shelf.proofs.{CabinetLemmas.part_order, KeyCells.record_order, KeyCells.line_order, KeyCells.delivery_order}
-use Rattle.office_tables_shelf.proofs.StoredMaps.{insert_stored}
+use Rattle.office_tables_shelf.specs.{Cells.TableRows, Cells.tree_rows, Change.changed, Change.changed_by, Content.Content, declared.rows.RowChange.RowChange, declared.rows.RowChange.TheVariants.PutOrder}
+use Rattle.office_tables_shelf.proofs.{CabinetLemmas.part_order, KeyCells.record_order, KeyCells.line_order, KeyCells.delivery_order, StoredMaps.insert_stored}
 use Rattle.office_machine.specs.Step.{cabinet_of}
 use Rattle.office_desk_cabinet.specs.RegisterStands.{inspection_cells, order_cells, line_cells, delivery_cells, RegisterStands}
 use Rattle.office_desk_cabinet.specs.Telling.{row_changes_of}

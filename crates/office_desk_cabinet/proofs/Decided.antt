@@ -2,25 +2,20 @@
 use Rattle.std.proofs.Common.{◌≡◌, ◌≢◌, ◌≤◌, ℕ, Bool, true, false, List, [], Option, Some, None, Result, Ok, Err, is_some, inl, inr, refl, sym, ap, subst, subst₂, ◌∙◌, arith}
 use Rattle.std.specs.Prelude.{if◌then◌else◌, nat_lt, Vec, ◌+◌}
 use Rattle.cabinet_core.specs.Cabinet.{Line, added, same, refused, Records, on_hand, is_opened_so, is_same_inspection, is_same_line, is_same_closing, is_same_delivery, close_order_line}
-use Rattle.cabinet_core.specs.{Changes.ChangesMake, Changes.Makes, Changes.MakesIn, Register.Register, Step.Standing, Step.line_on, Step.line_at, Step.with_record}
-use Rattle.cabinet_core.specs.declared.{command.RecordCommand.RecordCommand, decide.CabinetChange.CabinetChange, decide.Recorded.Recorded, part.TheConstants.MOST_ON_HAND, record.Order.Order, record.Closing.Closing, refusal.CabinetRefusal.CabinetRefusal}
+use Rattle.cabinet_core.specs.{Changes.ChangesMake, Changes.Makes, Changes.MakesIn, Register.Register, Step.Standing, Step.line_on, Step.line_at, Step.with_record, declared.command.RecordCommand.RecordCommand, declared.decide.CabinetChange.CabinetChange, declared.decide.Recorded.Recorded, declared.part.TheConstants.MOST_ON_HAND, declared.record.Order.Order, declared.record.Closing.Closing, declared.refusal.CabinetRefusal.CabinetRefusal}
 use Rattle.cabinet_core.specs.declared.command.RecordCommand.TheVariants.{Inspect, OpenOrder, UsePart, CloseOrder, Receive}
-use Rattle.cabinet_core.specs.declared.decide.Recorded.TheVariants as recorded
-use Rattle.cabinet_core.specs.declared.refusal.CabinetRefusal.TheVariants as refusal
 use Rattle.cabinet_core.proofs.Made.{changes_on, place_or}
-use Rattle.office_machine.specs.Step.{cabinet_of, refusal_of_record}
-use Rattle.office_machine.specs.declared.command.Command.TheVariants.{Record}
-use Rattle.office_machine.specs.declared.reply.Reply.TheVariants as reply
+use Rattle.office_machine.specs.{Step.cabinet_of, Step.refusal_of_record, declared.command.Command.TheVariants.Record}
 use Rattle.office_tables_decisions.specs.{Changes.IsRefused, Named.RefusesBy, Named.number_of, Named.numbers_of, RecordBounds.IsOneOf, RecordBounds.most_record_writes}
 use Rattle.office_tables_decisions.proofs.Decisions.{refuses_so}
-use Rattle.office_tables_shelf.specs.{Change.AddNew, Change.changed_by, Content.Content, Counts.writes_in}
-use Rattle.office_tables_shelf.specs.declared.{rows.RowChange.RowChange, rows.Table.Table, shelf.ShelfFault.ShelfFault}
-use Rattle.office_tables_shelf.specs.declared.shelf.ShelfFault.TheVariants.{NoMemory, Damaged}
-use Rattle.office_tables_shelf.specs.declared.rows.Table.TheVariants as table
+use Rattle.office_tables_shelf.specs.{Change.AddNew, Change.changed_by, Content.Content, Counts.writes_in, declared.rows.RowChange.RowChange, declared.rows.Table.Table, declared.shelf.ShelfFault.ShelfFault, declared.shelf.ShelfFault.TheVariants.NoMemory, declared.shelf.ShelfFault.TheVariants.Damaged}
 use Rattle.office_desk_cabinet.specs.Decides.{DecidesRecord, LeavesTiming, TakesRecord, WritesRecord, register_with, reply_taken, taken_by}
-use Rattle.office_desk_cabinet.specs.RegisterStands.{RegisterStandsSound}
-use Rattle.office_desk_cabinet.specs.{Telling.Tells, Telling.row_changes_of, declared.deciding.Taken.Taken}
+use Rattle.office_desk_cabinet.specs.{RegisterStands.RegisterStandsSound, Telling.Tells, Telling.row_changes_of, declared.deciding.Taken.Taken}
 use Rattle.office_desk_cabinet.proofs.{Changed.rows_on, Changed.stand_changed, Found.ReadsKeys, Found.keys_stand}
+use Rattle.cabinet_core.specs.declared.decide.Recorded.TheVariants as recorded
+use Rattle.cabinet_core.specs.declared.refusal.CabinetRefusal.TheVariants as refusal
+use Rattle.office_machine.specs.declared.reply.Reply.TheVariants as reply
+use Rattle.office_tables_shelf.specs.declared.rows.Table.TheVariants as table
 
 -- ---- the refusals of a record's line
 

@@ -3,9 +3,7 @@ use Rattle.std.proofs.Common.{◌≡◌, ℕ, zero, suc, ◌+◌, ◌*◌, ◌<�
 use native.Mathlib.Numerals.{unary_clauses}
 use Rattle.std.proofs.lemmas.{Cmp.nat_cmp_total, Cmp.ranked, List.Sorted.IsNonDecreasingBy-from_all_adjacent}
 use Rattle.std.specs.{Cmp.tied_itself, FinMap.entries, FinMap.entries_sorted, List.AllAdjacentBelow, List.AllByRecursion, List.Sorted.IsNonDecreasingBy, FinMap.Entries.is_sorted, FinMap.Entries.is_sorted-where_key, Ordering.nat_cmp, Ordering.ordering_then}
-use Rattle.cabinet_core.specs.Places.{inspection_place, order_place, line_place}
-use Rattle.cabinet_core.specs.Within.{IsInspectionWithin, IsOrderWithin, IsUsedLineWithin}
-use Rattle.cabinet_core.specs.declared.{record.Inspection.Inspection, record.Order.Order, record.UsedLine.UsedLine}
+use Rattle.cabinet_core.specs.{Places.inspection_place, Places.order_place, Places.line_place, Within.IsInspectionWithin, Within.IsOrderWithin, Within.IsUsedLineWithin, declared.record.Inspection.Inspection, declared.record.Order.Order, declared.record.UsedLine.UsedLine}
 use Rattle.office_tables_shelf.proofs.{KeyCells.record_order, KeyCells.line_order, ListLemmas.entry, ListLemmas.less, ListLemmas.parts}
 use Rattle.office_tables_shelf.specs.CabinetRows.{inspection_columns, inspection_key, order_columns, order_key, used_columns, used_key}
 use Rattle.office_tables_shelf.specs.{CabinetReads.ListsInspections, CabinetReads.ListsOrders, CabinetReads.ListsUsed, Content.Content, Cells.Cell, Cells.TableRows, Cells.cells_cmp, Shelf.is_of, Shelf.rows_of}

@@ -2,20 +2,15 @@
 use Rattle.std.proofs.Common.{◌≡◌, ℕ, pos, inl, inr, ◌==◌, List, [], ◌∷◌, map, filter, Ordering, refl, sym, ap, ◌∙◌, map-id}
 use Rattle.std.proofs.lemmas.{Bool.cases_Bool, Cmp.nat_list_cmp_total}
 use Rattle.std.specs.{Cmp.IsTotalOrder, FinMap.FinMap, FinMap.entries, FinMap.get, FinMap.Entries.where_key, Prelude.IfSome}
-use Rattle.cabinet_core.specs.{Register.Register, Register.records_at, Sound.IsInspectionAt, Sound.IsOrderAt, Sound.IsLineAt}
-use Rattle.cabinet_core.specs.Orders.{is_open}
-use Rattle.cabinet_core.specs.Stock.{stock_by_code, stock_of}
-use Rattle.cabinet_core.specs.declared.{record.Inspection.Inspection, record.Order.Order, record.UsedLine.UsedLine}
+use Rattle.cabinet_core.specs.{Register.Register, Register.records_at, Sound.IsInspectionAt, Sound.IsOrderAt, Sound.IsLineAt, Orders.is_open, Stock.stock_by_code, Stock.stock_of, declared.record.Inspection.Inspection, declared.record.Order.Order, declared.record.UsedLine.UsedLine}
 use Rattle.cabinet_core.proofs.{EntryLemmas.entries_stand, EntryLemmas.kept, KeyOrders.record_total, KeyOrders.line_total}
 use Rattle.office_tables_shelf.specs.CabinetReads.{ListsInspections, ListsOrders, ListsUsed, ListsParts}
 use Rattle.office_tables_shelf.specs.CabinetRows.{inspection_key, inspection_columns, order_key, order_columns, used_key, used_columns, part_key, part_columns}
 use Rattle.office_tables_shelf.specs.Cells.{Cell, TableRows, number, cells_cmp, tree_rows}
-use Rattle.office_tables_shelf.specs.{Content.Content, OpenOrders.ReadsOpen, Shelf.is_of, Shelf.rows_of}
-use Rattle.office_tables_shelf.proofs.{CabinetLemmas.of_number, CabinetLemmas.part_order, KeyCells.record_order, KeyCells.line_order}
-use Rattle.office_tables_shelf.proofs.StoredMaps.{stored_entries}
+use Rattle.office_tables_shelf.specs.{Content.Content, OpenOrders.ReadsOpen, Shelf.is_of, Shelf.rows_of, Places.Inspection as at_inspection, Places.Order as at_order, Places.Line as at_line}
+use Rattle.office_tables_shelf.proofs.{CabinetLemmas.of_number, CabinetLemmas.part_order, KeyCells.record_order, KeyCells.line_order, StoredMaps.stored_entries}
 use Rattle.office_tables_decisions.proofs.RowsTell.{told_by_rows, rows_tell}
 use Rattle.office_desk_cabinet.specs.RegisterStands.{inspection_cells, order_cells, line_cells, RegisterStands, RegisterStandsSound}
-use Rattle.office_tables_shelf.specs.Places.{Inspection as at_inspection, Order as at_order, Line as at_line}
 use Rattle.office_desk_cabinet.proofs.Places.{tell_at}
 
 -- ---- the records of an intersection

@@ -1,18 +1,14 @@
 -- What stands under a key of the register after rows are written, and rows that come to the same with one for each part.
 use Rattle.std.proofs.Common.{◌≡◌, ◌≢◌, ◌≤◌, ◌+◌, ℕ, Bool, true, false, List, [], ◌∷◌, ◌++◌, map, filter, length, cond, Option, Some, None, Less, T, option_map, refl, sym, ap, subst, subst₂, ◌∙◌, inl, inr, arith}
-use Rattle.std.proofs.lemmas.Bool.{cases_Bool}
-use Rattle.std.proofs.lemmas.List.{length-map}
+use Rattle.std.proofs.lemmas.{Bool.cases_Bool, List.length-map}
 use Rattle.std.specs.{Prelude.IsSome, FinMap.contains_key, FinMap.entries, FinMap.entries_sorted, FinMap.get, FinMap.get-empty, FinMap.get-entries, FinMap.get-insert, FinMap.insert, FinMap.len, FinMap.len-entries, FinMap.len-insert, FinMap.len-empty, FinMap.same_map, FinMap.Entries.below_all, FinMap.Entries.find, FinMap.Entries.is_sorted, Option.option_or, Ordering.eq_by_cmp}
 use Rattle.office_tables_shelf.proofs.{CellLemmas.cells_exact, CellLemmas.cells_total, CellLemmas.tied, ListLemmas.less, ListLemmas.parts}
-use Rattle.office_tables_shelf.specs.CabinetReads.{ListsParts}
-use Rattle.office_tables_shelf.specs.CabinetRows.{part_key, part_columns}
-use Rattle.office_tables_shelf.specs.{Cells.Cell, Cells.TableRows, Cells.cells_cmp, Change.AddNew, Change.changed, Change.changed_by, Content.Content, Content.no_content, Content.rows_at, Counts.is_same_table, Counts.writes_in}
-use Rattle.office_tables_shelf.specs.declared.{register.RegisterRecord.RegisterRecord, rows.RowChange.RowChange, rows.Table.Table}
-use Rattle.office_tables_shelf.specs.declared.register.RegisterRecord.TheVariants as kind
+use Rattle.office_tables_shelf.specs.{CabinetReads.ListsParts, CabinetRows.part_key, CabinetRows.part_columns, Cells.Cell, Cells.TableRows, Cells.cells_cmp, Change.AddNew, Change.changed, Change.changed_by, Content.Content, Content.no_content, Content.rows_at, Counts.is_same_table, Counts.writes_in, declared.register.RegisterRecord.RegisterRecord, declared.rows.RowChange.RowChange, declared.rows.Table.Table}
 use Rattle.office_tables_shelf.specs.declared.rows.RowChange.TheVariants.{AddInspection, AddOrder, PutOrder, AddLine, PutPart, AddDelivery}
-use Rattle.office_tables_shelf.specs.declared.rows.Table.TheVariants as table
 use Rattle.office_tables_shelf.specs.Places.{Place, Inspection, Order, Line, Part, Delivery, RecordAt, IsOfPlace, ReadsAt, columns_at, found_at, key_cells, table_at}
 use Rattle.office_desk_cabinet.specs.Pending.{ComesTo, is_other, part_row}
+use Rattle.office_tables_shelf.specs.declared.register.RegisterRecord.TheVariants as kind
+use Rattle.office_tables_shelf.specs.declared.rows.Table.TheVariants as table
 
 -- ---- what the rows make of tables without a row lies over what stood before
 

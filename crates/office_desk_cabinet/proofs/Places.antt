@@ -2,8 +2,7 @@
 use Rattle.std.proofs.Common.{◌≡◌, Option, None, Some, IfSome, option_map, List, refl, sym, ap, ◌∙◌}
 use Rattle.std.specs.FinMap.{get}
 use Rattle.cabinet_core.specs.declared.record.Closing.{Closing}
-use Rattle.office_tables_shelf.specs.CabinetRows.{closed_cell, closer_cell}
-use Rattle.office_tables_shelf.specs.{Cells.Cell, Content.Content, Content.rows_at}
+use Rattle.office_tables_shelf.specs.{CabinetRows.closed_cell, CabinetRows.closer_cell, Cells.Cell, Content.Content, Content.rows_at}
 use Rattle.office_tables_shelf.specs.Places.{Place, Inspection, Order, Line, Part, Delivery, RecordAt, WithinAt, ReadsAt, DamagedAt, table_at, key_cells, own_key, columns_at}
 
 -- the cells that stand at a place

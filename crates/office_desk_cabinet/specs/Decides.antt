@@ -1,29 +1,13 @@
 -- What is promised of a record of the register that is taken on what the tables hold.
 use Rattle.std.specs.Prelude.{◌≡◌, ◌≢◌, ◌≤◌, Bool, true, false, List, [], Result, Ok, Err, Vec}
 use Rattle.cabinet_core.specs.Cabinet.{Line, added, same, refused}
-use Rattle.cabinet_core.specs.Register.{Register}
-use Rattle.cabinet_core.specs.Step.{line_at, with_record}
-use Rattle.cabinet_core.specs.declared.command.RecordCommand.{RecordCommand}
-use Rattle.cabinet_core.specs.declared.refusal.CabinetRefusal.{CabinetRefusal}
-use Rattle.office_machine.specs.Step.{refusal_of_record}
-use Rattle.office_machine.specs.declared.command.Command.TheVariants.{Record}
+use Rattle.cabinet_core.specs.{Register.Register, Step.line_at, Step.with_record, declared.command.RecordCommand.RecordCommand, declared.refusal.CabinetRefusal.CabinetRefusal}
+use Rattle.office_machine.specs.{Step.refusal_of_record, declared.command.Command.TheVariants.Record, declared.reply.Reply.Reply}
+use Rattle.office_tables_decisions.specs.{Changes.IsRefused, Damage.MeetsRecordDamage, Named.RefusesBy, Named.numbers_of, RecordBounds.most_record_writes}
+use Rattle.office_tables_shelf.specs.{Change.AddNew, Change.changed_by, Content.Content, Counts.writes_in, declared.rows.RowChange.RowChange, declared.rows.Table.Table, declared.shelf.ShelfFault.ShelfFault, declared.shelf.ShelfFault.TheVariants.Damaged}
+use Rattle.office_desk_cabinet.specs.{RegisterStands.RegisterStandsSound, declared.deciding.Taken.Taken, declared.deciding.Taken.TheVariants.Added, declared.deciding.Taken.TheVariants.Same, declared.deciding.Taken.TheVariants.Refused}
 use Rattle.office_machine.specs.declared.refusal.Refusal.TheVariants as refusal
-use Rattle.office_machine.specs.declared.reply.Reply.{Reply}
 use Rattle.office_machine.specs.declared.reply.Reply.TheVariants as reply
-use Rattle.office_tables_decisions.specs.Changes.{IsRefused}
-use Rattle.office_tables_decisions.specs.Damage.{MeetsRecordDamage}
-use Rattle.office_tables_decisions.specs.Named.{RefusesBy, numbers_of}
-use Rattle.office_tables_decisions.specs.RecordBounds.{most_record_writes}
-use Rattle.office_tables_shelf.specs.Change.{AddNew, changed_by}
-use Rattle.office_tables_shelf.specs.Content.{Content}
-use Rattle.office_tables_shelf.specs.Counts.{writes_in}
-use Rattle.office_tables_shelf.specs.declared.rows.RowChange.{RowChange}
-use Rattle.office_tables_shelf.specs.declared.rows.Table.{Table}
-use Rattle.office_tables_shelf.specs.declared.shelf.ShelfFault.{ShelfFault}
-use Rattle.office_tables_shelf.specs.declared.shelf.ShelfFault.TheVariants.{Damaged}
-use Rattle.office_desk_cabinet.specs.RegisterStands.{RegisterStandsSound}
-use Rattle.office_desk_cabinet.specs.declared.deciding.Taken.{Taken}
-use Rattle.office_desk_cabinet.specs.declared.deciding.Taken.TheVariants.{Added, Same, Refused}
 
 -- what comes of a record, by whether its intersection is there (or it is of none) and by what the register decides of it: without the intersection it is refused
 abbrev pub taken_by : (is_there : Bool) → Line → Taken

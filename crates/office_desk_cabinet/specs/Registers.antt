@@ -1,9 +1,7 @@
 -- What a register holds at a place, and what is shown of a cabinet.
 use Rattle.std.specs.Prelude.{◌≡◌, ℕ, Option}
 use Rattle.std.specs.FinMap.{get}
-use Rattle.cabinet_core.specs.Register.{Register, records_at}
-use Rattle.cabinet_core.specs.Stock.{hand_of}
-use Rattle.cabinet_core.specs.declared.record.CabinetView.{CabinetView}
+use Rattle.cabinet_core.specs.{Register.Register, Register.records_at, Stock.hand_of, declared.record.CabinetView.CabinetView}
 use Rattle.office_tables_shelf.specs.Places.{Place, Inspection, Order, Line, Part, Delivery, RecordAt}
 
 -- what a register holds at a place, if it holds anything there

@@ -1,21 +1,14 @@
 -- How a decision of the register is told, with its changes as rows.
 use Rattle.std.specs.Prelude.{◌≡◌, ◌≢◌, ℕ, List, [], Option, Some, None, Result, Ok, Err, Vec}
 use Rattle.std.specs.{List.filter_map, Option.option_map}
-use Rattle.cabinet_core.specs.declared.decide.CabinetChange.{CabinetChange}
+use Rattle.cabinet_core.specs.declared.{decide.CabinetChange.CabinetChange, decide.Recorded.Recorded, record.Closing.Closing, record.Order.Order, refusal.CabinetRefusal.CabinetRefusal}
+use Rattle.office_tables_shelf.specs.declared.{rows.RowChange.RowChange, shelf.ShelfFault.ShelfFault, shelf.ShelfFault.TheVariants.NoMemory}
+use Rattle.office_tables_shelf.specs.declared.rows.RowChange.TheVariants.{AddInspection, AddOrder, PutOrder, AddLine, PutPart, AddDelivery}
+use Rattle.office_desk_cabinet.specs.declared.deciding.Taken.{Taken, TheVariants.Added, TheVariants.Same, TheVariants.Refused}
 use Rattle.cabinet_core.specs.declared.decide.CabinetChange.TheVariants as change
-use Rattle.cabinet_core.specs.declared.decide.Recorded.{Recorded}
 use Rattle.cabinet_core.specs.declared.decide.Recorded.TheVariants as recorded
-use Rattle.cabinet_core.specs.declared.record.Closing.{Closing}
-use Rattle.cabinet_core.specs.declared.record.Order.{Order}
-use Rattle.cabinet_core.specs.declared.refusal.CabinetRefusal.{CabinetRefusal}
 use Rattle.cabinet_core.specs.declared.refusal.CabinetRefusal.TheVariants as refusal
 use Rattle.office_machine.specs.declared.refusal.Refusal.TheVariants as office
-use Rattle.office_tables_shelf.specs.declared.rows.RowChange.{RowChange}
-use Rattle.office_tables_shelf.specs.declared.rows.RowChange.TheVariants.{AddInspection, AddOrder, PutOrder, AddLine, PutPart, AddDelivery}
-use Rattle.office_tables_shelf.specs.declared.shelf.ShelfFault.{ShelfFault}
-use Rattle.office_tables_shelf.specs.declared.shelf.ShelfFault.TheVariants.{NoMemory}
-use Rattle.office_desk_cabinet.specs.declared.deciding.Taken.{Taken}
-use Rattle.office_desk_cabinet.specs.declared.deciding.Taken.TheVariants.{Added, Same, Refused}
 
 -- an order as a row: where it is open it is new, and where it is closed it was there open
 abbrev pub order_row_of : ℕ → Order → Option Closing → RowChange

@@ -24,9 +24,7 @@ pub struct Pending {
 
 impl Model for Pending {
     ghost use Rattle.std.specs.Prelude.{◌≡◌, List};
-    ghost use Rattle.office_tables_shelf.specs.Change.{changed_by};
-    ghost use Rattle.office_tables_shelf.specs.Content.{no_content};
-    ghost use Rattle.office_tables_shelf.specs.declared.rows.RowChange.{RowChange};
+    ghost use Rattle.office_tables_shelf.specs.{Change.changed_by, Content.no_content, declared.rows.RowChange.RowChange};
 
     ghost Value = { List RowChange };
 

@@ -1,13 +1,9 @@
 //! Queries of the register: the records of a cabinet, and its open orders.
 ghost use Rattle.std.specs.Prelude.{◌≡◌, IfOk, filter, map, ⊤};
-ghost use Rattle.cabinet_core.specs.Orders.{is_open, open_at};
-ghost use Rattle.cabinet_core.specs.Register.{Register};
-ghost use Rattle.cabinet_core.specs.declared.record.Order.{Order};
+ghost use Rattle.cabinet_core.specs.{Orders.is_open, Orders.open_at, Register.Register, declared.record.Order.Order};
 ghost use Rattle.office_tables_shelf.specs.CabinetReads.{HasDamagedOrder};
-ghost use Rattle.office_tables_decisions.specs.Reads.{OnlyReads, Reports};
-ghost use Rattle.office_tables_decisions.specs.Damage.{HasDamagedCabinet};
-ghost use Rattle.office_desk_cabinet.specs.RegisterStands.{RegisterStandsSound};
-ghost use Rattle.office_desk_cabinet.specs.Registers.{ShowsCabinet};
+ghost use Rattle.office_tables_decisions.specs.{Reads.OnlyReads, Reads.Reports, Damage.HasDamagedCabinet};
+ghost use Rattle.office_desk_cabinet.specs.{RegisterStands.RegisterStandsSound, Registers.ShowsCabinet};
 
 use cabinet_core::{CabinetView, Order, Ordered};
 use office_tables_shelf::shelf::{Shelf, ShelfFault};

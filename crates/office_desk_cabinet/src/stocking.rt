@@ -1,12 +1,9 @@
 //! The stock: parts used, deliveries received, and what is on hand.
 ghost use Rattle.std.specs.Prelude.{◌≡◌, [], ⊤};
-ghost use Rattle.cabinet_core.specs.Register.{Register};
-ghost use Rattle.cabinet_core.specs.Stock.{stock_of};
-ghost use Rattle.cabinet_core.specs.declared.command.RecordCommand.{RecordCommand};
+ghost use Rattle.cabinet_core.specs.{Register.Register, Stock.stock_of, declared.command.RecordCommand.RecordCommand};
 ghost use Rattle.office_tables_shelf.specs.CabinetReads.{HasDamagedPart};
 ghost use Rattle.office_tables_decisions.specs.Reads.{OnlyReads, Reports};
-ghost use Rattle.office_desk_cabinet.specs.RegisterStands.{RegisterStandsSound};
-ghost use Rattle.office_desk_cabinet.specs.Decides.{DecidesRecord};
+ghost use Rattle.office_desk_cabinet.specs.{RegisterStands.RegisterStandsSound, Decides.DecidesRecord};
 
 use crate::deciding::Taken;
 use crate::pending::{Pending, record_at};
