@@ -92,7 +92,6 @@ module _ (first now next : Office) (so_far : List RecordCommand) (run : AreAccep
 -- after records that were accepted from the first office on
 replies_show : (commands : List Command) (replies : List Reply) (first now last : Office) (so_far : List RecordCommand) (run : Run now commands replies last)
     → AreAccepted first.register so_far now.register → IsTidy first.register → ShowAccepted first so_far now commands replies last run
-replies_show [] [] first now last so_far run taken tidy = tt
 replies_show (command ∷ commands) (reply ∷ replies) first now last so_far run taken tidy =
     let one = step_after now run.0 command reply run.1 [] run.0.register refl in
     let brought : AreAccepted now.register (accepted_of now command reply) run.0.register =

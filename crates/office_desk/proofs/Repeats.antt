@@ -115,7 +115,6 @@ sent_again office next records reply (inr is) there =
 
 -- of records that are there at its start
 run_repeats : (records : List RecordCommand) (commands : List Command) (replies : List Reply) (first last : Office) (run : Run first commands replies last) → AreThere first records → AreRepeats records first commands replies last run
-run_repeats records [] [] first last run there = tt
 run_repeats records (command ∷ commands) (reply ∷ replies) first last run there = (
   (λ is. sent_again first run.0 records reply (subst (λ c. Step first c reply run.0) is run.1) there),
   run_repeats records commands replies run.0 last run.2 (all_kept first run.0 records (step_keeps first run.0 command reply run.1) there),
@@ -124,7 +123,6 @@ run_repeats records _ _ first last run there = tt
 
 -- of imports that are accepted on the way
 pub runs_repeat : (commands : List Command) (replies : List Reply) (first last : Office) (run : Run first commands replies last) → Repeats first commands replies last run
-runs_repeat [] [] first last run = tt
 runs_repeat (command ∷ commands) (reply ∷ replies) first last run = (
   (λ records added same is accepted. run_repeats records commands replies run.0 last run.2
       (accepted_there first run.0 records added same reply (subst (λ c. Step first c reply run.0) is run.1) accepted)),

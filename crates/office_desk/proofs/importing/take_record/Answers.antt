@@ -1,9 +1,9 @@
-use Rattle.std.proofs.Common.{◌∙◌, Bool, Ok, ap, false, subst, sym}
+use Rattle.std.proofs.Common.{◌≡◌, ◌∙◌, Bool, Ok, Err, ap, false, subst, sym, true}
 use Rattle.office_machine.specs.Step.{cabinet_of}
 use Rattle.office_tables_decisions.proofs.ReadLemmas.{handed_reports, handed_told, told_on}
 use Rattle.office_desk_cabinet.specs.Decides.{WritesRecord}
 use Rattle.office_desk.specs.{Recording.TellsIntersection, Taking.TakesNext}
-use Rattle.office_desk.proofs.{FoundAgain.not_told, FoundAgain.told_there, Recorded.about_tells, Taking.known_damage, Taking.known_takes, Taking.takes_unknown, Taking.writes_unknown}
+use Rattle.office_desk.proofs.{Recorded.about_tells, Taking.known_damage, Taking.known_takes, Taking.takes_unknown, Taking.writes_unknown}
 use Rattle.office_desk.proofs.importing.take_record.Goals as goal
 
 -- ---- the intersection is not there
@@ -20,11 +20,11 @@ returns-then-not-branch-clause-within g c =
 
 pub returns-then-not-branch-clause-reads : goal.returns-then-not-branch-clause-reads
 returns-then-not-branch-clause-reads g c =
-    told_on _ _ _ (Ok c.in_ok-is_found.field-0) _ _ _ c.in_ok-is_found.ensures.reads (not_told (Ok c.in_ok-is_found.field-0) c.if-not-branch.true) (λ told. tt)
+    told_on _ _ _ (Ok c.in_ok-is_found.field-0) _ _ _ c.in_ok-is_found.ensures.reads (λ is. cc) (λ told. tt)
 
 pub returns-in_err-is_found-clause-reads : goal.returns-in_err-is_found-clause-reads
 returns-in_err-is_found-clause-reads g c =
-    told_on _ _ _ _ c.from_residual.result _ _ c.is_found.ensures.reads (not_told c.is_found.result (ap told_there c.in_err-is_found.was))
+    told_on _ _ _ _ c.from_residual.result _ _ c.is_found.ensures.reads (λ is. let never : Err c.in_err-is_found.field-0.0 ≡ Ok true = sym c.in_err-is_found.was ∙ is in cc)
     (handed_told _ _ c.in_err-is_found.field-0.0 c.in_err-is_found.was c.from_residual.ensures.1)
 
 -- ---- it is there
