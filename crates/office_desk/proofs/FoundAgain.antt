@@ -1,8 +1,6 @@
 -- Intersections that were found, and what is known of them.
 use Rattle.std.proofs.Common.{◌≡◌, ℕ, true, List, [], Some, nat_cmp, sym, subst, ◌∙◌}
-use Rattle.std.proofs.lemmas.List.Elements.{All-nil}
-use Rattle.std.proofs.lemmas.Map.Lookups.{CmpEqualImpliesEq, exact_unsigned}
-use Rattle.std.proofs.lemmas.Map.Views.{All-insert_key, Contains-from_any, tells_apart}
+use Rattle.std.proofs.lemmas.{List.Elements.All-nil, Map.Lookups.CmpEqualImpliesEq, Map.Lookups.exact_unsigned, Map.Views.All-insert_key, Map.Views.Contains-from_any, Map.Views.tells_apart}
 use Rattle.std.specs.{BTreeSet.BTreeSet, BTreeSet.insert_key, List.All, List.Contains, List.list_any, Ordering.eq_by_cmp}
 use Rattle.office_tables_shelf.specs.Content.{Content}
 use Rattle.office_tables_shelf.proofs.TreeLemmas.{ranged_cmp, then_last}

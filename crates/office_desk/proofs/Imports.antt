@@ -3,20 +3,17 @@ use Rattle.std.proofs.Common.{◌≡◌, ◌+◌, ◌++◌, ◌≤◌, ◌<◌, 
 use Rattle.std.proofs.{Math.Seq.drop-cons, lemmas.List.drop_all}
 use Rattle.std.specs.Prelude.{◌⊎◌}
 use Rattle.cabinet_core.specs.{Cabinet.Line, Cabinet.added as added_line, Cabinet.same as same_line, Cabinet.refused as refused_line, Step.line_at, declared.command.RecordCommand.RecordCommand}
-use Rattle.office_tables_shelf.specs.{Change.AddNew, Change.changed_by, Content.Content, Counts.writes_in, Shelf.IsTold}
+use Rattle.office_tables_shelf.specs.{Change.AddNew, Change.changed_by, Content.Content, Counts.writes_in, Shelf.IsTold, declared.shelf.Shelf.Ghosts, declared.shelf.ShelfFault.ShelfFault, declared.rows.RowChange.RowChange, declared.rows.Table.Table}
 use Rattle.office_tables_shelf.proofs.KeptLemmas.{kept_on}
-use Rattle.office_tables_shelf.specs.declared.{shelf.Shelf.Ghosts, shelf.ShelfFault.ShelfFault, rows.RowChange.RowChange, rows.Table.Table}
 use Rattle.office_tables_decisions.specs.{Reads.OnlyReads, RecordBounds.most_record_writes, declared.decided.Decided.Decided}
 use Rattle.office_tables_decisions.proofs.{Decisions.accepted_decides, ReadLemmas.HasRead}
 use Rattle.office_desk_cabinet.specs.{Decides.taken_by, Pending.ComesTo, declared.deciding.Taken.Taken}
-use Rattle.office_desk_cabinet.specs.declared.deciding.Taken.TheVariants as taken
 use Rattle.office_desk_cabinet.proofs.PendingLemmas.{news_after}
 use Rattle.office_desk.specs.{Changes.most_import_writes, Damage.MeetsCabinetDamage, Damage.MeetsImportDamage, Deciding.IsDecision, StandFor.StandForSound, Taking.TakesNext, Taking.office_with, Taking.taken_in}
 use Rattle.office_desk.proofs.{Taking.Follows, Taking.follows_none, Taking.follows_on, Taking.taken_so, Writes.import_writes}
 use Rattle.office_machine.specs.Step.{answered, cabinet_of, import_by, import_from, import_step, is_known, with_recorded}
-use Rattle.office_machine.specs.{Office.Office, Refusal.line_of}
-use Rattle.office_machine.specs.declared.{refusal.Refusal.Refusal, refusal.Refusal.TheVariants.ImportRow}
-use Rattle.office_machine.specs.declared.reply.Reply.TheVariants.{Imported, Refused}
+use Rattle.office_machine.specs.{Office.Office, Refusal.line_of, declared.refusal.Refusal.Refusal, declared.refusal.Refusal.TheVariants.ImportRow, declared.reply.Reply.TheVariants.Imported, declared.reply.Reply.TheVariants.Refused}
+use Rattle.office_desk_cabinet.specs.declared.deciding.Taken.TheVariants as taken
 use Rattle.office_machine.specs.declared.command.Command.TheVariants as command
 
 -- ---- the records that are left

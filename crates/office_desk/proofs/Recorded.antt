@@ -1,29 +1,20 @@
 -- What the commands and queries of the register answer is a step of the office.
 use Rattle.std.proofs.Common.{◌≡◌, ◌++◌, ◌≤◌, ℕ, Bool, true, false, List, [], ◌∷◌, map, Option, Some, None, is_some, arith, refl, ap, sym, subst, subst₂, ◌∙◌, inl, inr}
 use Rattle.std.specs.{Prelude.IsSome, Option.option_map, FinMap.get}
-use Rattle.cabinet_core.specs.declared.{command.RecordCommand.RecordCommand, record.CabinetView.CabinetView}
+use Rattle.cabinet_core.specs.{declared.command.RecordCommand.RecordCommand, declared.record.CabinetView.CabinetView, Orders.open_at, Register.Register, Step.after_line, Step.line_at, Step.with_record, Stock.stock_of}
 use Rattle.cabinet_core.specs.Cabinet.{Line, added as added_line, same as same_line, refused as refused_line}
-use Rattle.cabinet_core.specs.{Orders.open_at, Register.Register, Step.after_line, Step.line_at, Step.with_record, Stock.stock_of}
-use Rattle.office_tables_shelf.specs.{Cells.Cell, Cells.TableRows, Change.AddNew, Change.changed_by, Content.Content, Counts.writes_in, Shelf.ReadsIntersection, Rows.intersection_columns, Rows.intersection_key, Rows.timing_key}
-use Rattle.office_tables_shelf.specs.declared.{rows.IntersectionRow.IntersectionRow, rows.RowChange.RowChange, rows.Table.Table}
-use Rattle.office_tables_shelf.specs.RegisterStands.{RegisterStandsSound}
-use Rattle.office_tables_decisions.specs.RecordBounds.{IsOneOf, most_record_writes}
-use Rattle.office_tables_decisions.specs.{Damage.MeetsRecordDamage, declared.decided.Decided.Decided}
-use Rattle.office_desk_cabinet.specs.Registers.{ShowsCabinet}
-use Rattle.office_desk.specs.Named.{numbers_about, numbers_of}
-use Rattle.office_desk.specs.Taking.{TakesNext, office_with, taken_in}
+use Rattle.office_tables_shelf.specs.{Cells.Cell, Cells.TableRows, Change.AddNew, Change.changed_by, Content.Content, Counts.writes_in, Shelf.ReadsIntersection, Rows.intersection_columns, Rows.intersection_key, Rows.timing_key, declared.rows.IntersectionRow.IntersectionRow, declared.rows.RowChange.RowChange, declared.rows.Table.Table, RegisterStands.RegisterStandsSound}
+use Rattle.office_tables_decisions.specs.{RecordBounds.IsOneOf, RecordBounds.most_record_writes, Damage.MeetsRecordDamage, declared.decided.Decided.Decided}
+use Rattle.office_desk_cabinet.specs.{Registers.ShowsCabinet, declared.deciding.Taken.Taken}
+use Rattle.office_desk.specs.{Named.numbers_about, Named.numbers_of, Taking.TakesNext, Taking.office_with, Taking.taken_in, Changes.IsRefused, Damage.MeetsCabinetDamage, Deciding.IsDecision, Recording.IsKnownIn, Recording.TellsAbout, Recording.TellsIntersection, StandFor.StandForSound, StandFor.row_of}
 use Rattle.office_desk_cabinet.specs.Decides.{LeavesTiming, WritesRecord, register_with, reply_taken, taken_by}
-use Rattle.office_desk_cabinet.specs.declared.deciding.Taken.{Taken}
-use Rattle.cabinet_core.specs.declared.command.RecordCommand.TheVariants as register
-use Rattle.office_machine.specs.declared.refusal.Refusal.TheVariants.{Damaged}
-use Rattle.office_desk.specs.{Changes.IsRefused, Damage.MeetsCabinetDamage, Deciding.IsDecision, Recording.IsKnownIn, Recording.TellsAbout, Recording.TellsIntersection, StandFor.StandForSound, StandFor.row_of}
+use Rattle.office_machine.specs.{declared.refusal.Refusal.TheVariants.Damaged, Office.Office, Office.Intersection, declared.reply.CabinetShown.CabinetShown, declared.reply.Reply.Reply}
 use Rattle.office_machine.specs.Step.{answered, cabinet_of, cabinet_shown, is_known, step_if_known, record_step, recorded_at, shown, reply_of}
-use Rattle.office_machine.specs.Office.{Office, Intersection}
-use Rattle.office_machine.specs.declared.{reply.CabinetShown.CabinetShown, reply.Reply.Reply}
-use Rattle.office_machine.specs.declared.command.Command.TheVariants as command
-use Rattle.office_machine.specs.declared.reply.Reply.TheVariants as reply
 use Rattle.office_desk_timing.proofs.Stands.{row_read}
 use Rattle.office_desk.proofs.Writes.{record_writes}
+use Rattle.cabinet_core.specs.declared.command.RecordCommand.TheVariants as register
+use Rattle.office_machine.specs.declared.command.Command.TheVariants as command
+use Rattle.office_machine.specs.declared.reply.Reply.TheVariants as reply
 
 -- ---- whether the intersection is there
 

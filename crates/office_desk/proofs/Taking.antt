@@ -6,14 +6,11 @@ use Rattle.office_tables_shelf.specs.{Change.changed_by, Content.Content, declar
 use Rattle.office_tables_decisions.specs.Damage.{MeetsRecordDamage}
 use Rattle.office_tables_decisions.proofs.Decisions.{refuses_so}
 use Rattle.office_desk_cabinet.specs.Decides.{TakesRecord, WritesRecord, register_with, taken_by}
-use Rattle.office_desk_cabinet.specs.declared.deciding.Taken.{Taken}
-use Rattle.office_desk_cabinet.specs.declared.deciding.Taken.TheVariants.{Refused}
+use Rattle.office_desk_cabinet.specs.declared.deciding.Taken.{Taken, TheVariants.Refused}
 use Rattle.office_desk_cabinet.proofs.PendingLemmas.{changed_append}
 use Rattle.office_desk.specs.{Checking.MeetsThere, Damage.MeetsCabinetDamage, Named.numbers_of, Recording.TellsAbout, Recording.TellsIntersection, StandFor.StandForSound, Taking.TakesNext, Taking.office_with, Taking.taken_in}
 use Rattle.office_desk.proofs.Recorded.{meets_record, register_of, same_known, stands_after, unknown_named}
-use Rattle.office_machine.specs.{Office.Office, Step.cabinet_of}
-use Rattle.office_machine.specs.declared.command.Command.TheVariants.{Record}
-use Rattle.office_machine.specs.declared.refusal.Refusal.TheVariants.{Cabinet, UnknownIntersection}
+use Rattle.office_machine.specs.{Office.Office, Step.cabinet_of, declared.command.Command.TheVariants.Record, declared.refusal.Refusal.TheVariants.Cabinet, declared.refusal.Refusal.TheVariants.UnknownIntersection}
 
 -- ---- a record whose intersection is not there
 

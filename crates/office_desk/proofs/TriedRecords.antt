@@ -1,16 +1,15 @@
 -- Records that are tried in turn.
 use Rattle.std.proofs.Common.{◌≡◌, ◌+◌, ◌++◌, ℕ, List, [], ◌∷◌, drop, refl, ap, sym, ◌∙◌, inl, inr, append_assoc}
 use Rattle.cabinet_core.specs.declared.{command.RecordCommand.RecordCommand, refusal.CabinetRefusal.CabinetRefusal}
-use Rattle.cabinet_core.specs.declared.command.RecordCommand.TheVariants as asks
-use Rattle.cabinet_core.specs.declared.refusal.CabinetRefusal.TheVariants as cabinet
-use Rattle.office_tables_shelf.specs.{Content.Content, declared.rows.RowChange.RowChange}
-use Rattle.office_tables_shelf.specs.Places.{DamagedAt}
+use Rattle.office_tables_shelf.specs.{Content.Content, declared.rows.RowChange.RowChange, Places.DamagedAt}
 use Rattle.office_tables_decisions.specs.Damage.{MeetsRecordDamage}
 use Rattle.office_desk_cabinet.specs.declared.deciding.Taken.{Taken}
 use Rattle.office_desk.specs.Checking.{ChecksRecord, checked_as, checked_from, place_told, there_in}
 use Rattle.office_desk.specs.{StandFor.StandForSound, Taking.office_with, declared.checking.Checked.Checked}
 use Rattle.office_desk.proofs.{Imports.IsNext, Recorded.register_of, Taking.Follows, Taking.follows_none, Taking.follows_on, Taking.taken_so}
 use Rattle.office_machine.specs.Office.{Office}
+use Rattle.cabinet_core.specs.declared.command.RecordCommand.TheVariants as asks
+use Rattle.cabinet_core.specs.declared.refusal.CabinetRefusal.TheVariants as cabinet
 
 -- ---- what is there
 

@@ -1,29 +1,17 @@
 -- Records of the register that are tried in turn, and none of them stored: what would come of each, and what the register holds where one is refused.
 use Rattle.std.specs.Prelude.{◌≡◌, List, [], ◌∷◌, Option, Some, None}
-use Rattle.cabinet_core.specs.Cabinet.{on_hand}
-use Rattle.cabinet_core.specs.Register.{Register}
-use Rattle.cabinet_core.specs.declared.command.RecordCommand.{RecordCommand}
-use Rattle.cabinet_core.specs.declared.command.RecordCommand.TheVariants as asks
-use Rattle.cabinet_core.specs.declared.refusal.CabinetRefusal.{CabinetRefusal}
-use Rattle.cabinet_core.specs.declared.refusal.CabinetRefusal.TheVariants as refusal
-use Rattle.office_desk_cabinet.specs.Registers.{held_in}
-use Rattle.office_desk.specs.Taking.{TakesNext, office_with, taken_in}
-use Rattle.office_desk.specs.declared.checking.Checked.{Checked}
-use Rattle.office_desk.specs.declared.checking.Checked.TheVariants as checked
-use Rattle.office_desk_cabinet.specs.declared.deciding.Taken.{Taken}
-use Rattle.office_desk_cabinet.specs.declared.deciding.Taken.TheVariants as taken
-use Rattle.office_desk.specs.declared.there.There.{There}
-use Rattle.office_desk.specs.declared.there.There.TheVariants as there
-use Rattle.office_desk.specs.StandFor.{StandForSound}
-use Rattle.office_machine.specs.Office.{Office}
-use Rattle.office_machine.specs.declared.refusal.Refusal.TheVariants.{Cabinet as OfRegister}
+use Rattle.cabinet_core.specs.{Cabinet.on_hand, Register.Register, declared.command.RecordCommand.RecordCommand, declared.refusal.CabinetRefusal.CabinetRefusal}
+use Rattle.office_desk_cabinet.specs.{Registers.held_in, declared.deciding.Taken.Taken}
+use Rattle.office_desk.specs.{Taking.TakesNext, Taking.office_with, Taking.taken_in, declared.checking.Checked.Checked, declared.there.There.There, StandFor.StandForSound}
+use Rattle.office_machine.specs.{Office.Office, declared.refusal.Refusal.TheVariants.Cabinet as OfRegister}
 use Rattle.office_tables_decisions.specs.Damage.{MeetsRecordDamage}
-use Rattle.office_tables_shelf.specs.Change.{changed_by}
-use Rattle.office_tables_shelf.specs.Content.{Content}
+use Rattle.office_tables_shelf.specs.{Change.changed_by, Content.Content, Places.Place, Places.RecordAt, RegisterStands.RegisterStandsSound, declared.rows.RowChange.RowChange}
+use Rattle.cabinet_core.specs.declared.command.RecordCommand.TheVariants as asks
+use Rattle.cabinet_core.specs.declared.refusal.CabinetRefusal.TheVariants as refusal
+use Rattle.office_desk.specs.declared.checking.Checked.TheVariants as checked
+use Rattle.office_desk_cabinet.specs.declared.deciding.Taken.TheVariants as taken
+use Rattle.office_desk.specs.declared.there.There.TheVariants as there
 use Rattle.office_tables_shelf.specs.Places as place
-use Rattle.office_tables_shelf.specs.Places.{Place, RecordAt}
-use Rattle.office_tables_shelf.specs.RegisterStands.{RegisterStandsSound}
-use Rattle.office_tables_shelf.specs.declared.rows.RowChange.{RowChange}
 
 -- ---- what is there
 

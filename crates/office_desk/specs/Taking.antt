@@ -1,11 +1,9 @@
 -- How an office takes a record of the register, after those before it.
 use Rattle.std.specs.Prelude.{Bool, List}
-use Rattle.cabinet_core.specs.Step.{line_at}
-use Rattle.cabinet_core.specs.declared.command.RecordCommand.{RecordCommand}
+use Rattle.cabinet_core.specs.{Step.line_at, declared.command.RecordCommand.RecordCommand}
 use Rattle.office_machine.specs.{Office.Office, Step.cabinet_of, Step.is_known}
 use Rattle.office_tables_shelf.specs.{Change.changed_by, Content.Content, declared.rows.RowChange.RowChange}
-use Rattle.office_desk_cabinet.specs.Decides.{TakesRecord, register_with, taken_by}
-use Rattle.office_desk_cabinet.specs.declared.deciding.Taken.{Taken}
+use Rattle.office_desk_cabinet.specs.{Decides.TakesRecord, Decides.register_with, Decides.taken_by, declared.deciding.Taken.Taken}
 use Rattle.office_desk.specs.Recording.{TellsIntersection}
 
 -- how an office takes a record: as a new one, as one that is there already, or not, with the refusal

@@ -2,9 +2,7 @@
 //! stored.
 ghost use Rattle.std.specs.Prelude.{◌≡◌, ◌≢◌, ◌++◌, [], ◌∷◌, IfOk, OnOk};
 ghost use Rattle.office_tables_decisions.specs.Reads.{OnlyReads, Reports};
-ghost use Rattle.office_desk.specs.Checking.{Checks, ChecksRecord, checked_as};
-ghost use Rattle.office_desk.specs.Damage.{MeetsCabinetDamage, MeetsImportDamage};
-ghost use Rattle.office_desk.specs.Recording.{AreFound};
+ghost use Rattle.office_desk.specs.{Checking.Checks, Checking.ChecksRecord, Checking.checked_as, Damage.MeetsCabinetDamage, Damage.MeetsImportDamage, Recording.AreFound};
 ghost use Rattle.office_machine.specs.Step.{cabinet_of as about_of};
 
 use crate::importing::take_record;

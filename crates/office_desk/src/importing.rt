@@ -2,10 +2,7 @@
 ghost use Rattle.std.specs.Prelude.{◌≡◌, ◌≢◌, [], IfOk, IsOkAnd};
 ghost use Rattle.office_tables_decisions.specs.Reads.{OnlyReads, Reports};
 ghost use Rattle.office_desk_cabinet.specs.Decides.{WritesRecord};
-ghost use Rattle.office_desk.specs.Damage.{MeetsCabinetDamage};
-ghost use Rattle.office_desk.specs.Deciding.{AddsNothing, Decides};
-ghost use Rattle.office_desk.specs.Recording.{AreFound};
-ghost use Rattle.office_desk.specs.Taking.{TakesNext};
+ghost use Rattle.office_desk.specs.{Damage.MeetsCabinetDamage, Deciding.AddsNothing, Deciding.Decides, Recording.AreFound, Taking.TakesNext};
 ghost use Rattle.office_machine.specs.Step.{cabinet_of as about_of};
 
 use crate::found::is_found;
@@ -42,7 +39,10 @@ pub(crate) fn take_record<S: Shelf>(
     ensures reads { OnlyReads S.Shelf (pending.now ≡ []) result shelf.old shelf.new }
 {
     if !is_found(shelf, alloc, found, cabinet_of(command))? {
-        return Ok((Taken::Refused(Refusal::UnknownIntersection), Vec::new(alloc)));
+        return Ok((
+            Taken::Refused(Refusal::UnknownIntersection),
+            Vec::new(alloc),
+        ));
     }
     let taken = decide_record(shelf, alloc, pending, command)?;
     Ok(taken)

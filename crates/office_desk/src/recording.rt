@@ -2,8 +2,7 @@
 ghost use Rattle.std.specs.Prelude.{◌≡◌, false, Ok, IsSome, OnErr, ⊤};
 ghost use Rattle.office_tables_decisions.specs.Reads.{OnlyReads, Reports};
 ghost use Rattle.office_desk_cabinet.specs.Decides.{reply_taken};
-ghost use Rattle.office_desk.specs.Deciding.{Decides};
-ghost use Rattle.office_desk.specs.Recording.{HasDamagedAbout, TellsIntersection};
+ghost use Rattle.office_desk.specs.{Deciding.Decides, Recording.HasDamagedAbout, Recording.TellsIntersection};
 ghost use Rattle.office_machine.specs.Step.{cabinet_of as about_of};
 
 use cabinet_core::RecordCommand;

@@ -1,9 +1,9 @@
 //! What the register holds where it refuses a record, to be told with the refusal.
 ghost use Rattle.std.specs.Prelude.{◌≡◌, IfOk};
-ghost use Rattle.office_tables_shelf.specs.Places as place;
 ghost use Rattle.office_tables_shelf.specs.Places.{found_at, place_of};
 ghost use Rattle.office_tables_decisions.specs.Reads.{OnlyReads, Reports};
 ghost use Rattle.office_desk.specs.Checking.{MeetsThere, TellsThere, place_told, told_there};
+ghost use Rattle.office_tables_shelf.specs.Places as place;
 
 use cabinet_core::{
     CabinetRefusal, Delivery, Hand, Inspection, Order, PartCode, RecordCommand, UsedLine,

@@ -5,9 +5,7 @@ mod deciding;
 mod pending;
 mod rows;
 mod showing;
-mod stocking;
 
 pub use deciding::{Taken, decide_record};
 pub use pending::{Pending, record_at};
-pub use showing::{cabinet_view, open_orders};
-pub use stocking::stock;
+pub use showing::{cabinet_view, open_orders, stock};

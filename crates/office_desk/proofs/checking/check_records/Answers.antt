@@ -2,10 +2,9 @@ use Rattle.std.proofs.Common.{◌≡◌, ◌+◌, arith, refl, subst, subst₂, 
 use Rattle.office_desk.specs.{Checking.ChecksRecord, Damage.MeetsCabinetDamage, Recording.AreFound}
 use Rattle.office_machine.specs.Step.{cabinet_of}
 use Rattle.office_tables_shelf.specs.Content.{Content}
-use Rattle.office_desk.proofs.TriedRecords.{CheckedSoFar, checked_more, none_checked}
+use Rattle.office_desk.proofs.{TriedRecords.CheckedSoFar, TriedRecords.checked_more, TriedRecords.none_checked, FoundAgain.none_found}
 use Rattle.office_tables_decisions.proofs.ReadLemmas.{handed_reports, handed_told, unread}
 use Rattle.office_desk.proofs.Imports.{damage_of_record, is_next, some_read, taken_reads}
-use Rattle.office_desk.proofs.FoundAgain.{none_found}
 use Rattle.office_desk.proofs.checking.check_records.Goals as goal
 
 pub loop-command-init : goal.loop-command-init

@@ -1,13 +1,11 @@
 use Rattle.std.proofs.Common.{◌≡◌, ◌+◌, ◌≤◌, ◌∙◌, List, [], ◌∷◌, drop, length, inl, inr, ap, sym, refl, subst, arith}
 use Rattle.cabinet_core.specs.declared.command.RecordCommand.{RecordCommand}
 use Rattle.office_tables_shelf.specs.Counts.{writes_in}
-use Rattle.office_tables_decisions.proofs.ReadLemmas.{handed_told, unread}
+use Rattle.office_tables_decisions.proofs.{ReadLemmas.handed_told, ReadLemmas.unread, Decisions.handed_decides, Decisions.refuses_so, Decisions.told_decides}
 use Rattle.office_desk.specs.{Changes.most_import_writes, Damage.MeetsCabinetDamage, Recording.AreFound, Taking.TakesNext}
 use Rattle.office_machine.specs.{Step.cabinet_of, declared.reply.Reply.TheVariants.Imported}
 use Rattle.office_desk.proofs.Imports.{SoFar, WentOn, counted_on, damage_of_record, import_decides, is_next, none_next, none_taken, nothing_yet, one_more, refused_all, some_read, taken_reads, writes_left}
-use Rattle.office_desk.proofs.FoundAgain.{none_found}
-use Rattle.office_tables_decisions.proofs.Decisions.{handed_decides, refuses_so, told_decides}
-use Rattle.office_desk.proofs.importing.decide_import.Goals.{in-Added, in-Same}
+use Rattle.office_desk.proofs.{FoundAgain.none_found, importing.decide_import.Goals.in-Added, importing.decide_import.Goals.in-Same}
 use Rattle.office_desk.proofs.importing.decide_import.Goals as goal
 
 pub loop-index-init : goal.loop-index-init

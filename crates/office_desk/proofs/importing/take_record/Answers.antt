@@ -1,4 +1,4 @@
-use Rattle.std.proofs.Common.{◌≡◌, ◌∙◌, Bool, Ok, Err, ap, false, subst, sym, true}
+use Rattle.std.proofs.Common.{◌≡◌, ◌∙◌, Bool, Ok, Err, ap, false, subst, sym, true, true≢false}
 use Rattle.office_machine.specs.Step.{cabinet_of}
 use Rattle.office_tables_decisions.proofs.ReadLemmas.{handed_reports, handed_told, told_on}
 use Rattle.office_desk_cabinet.specs.Decides.{WritesRecord}
@@ -20,7 +20,8 @@ returns-then-not-branch-clause-within g c =
 
 pub returns-then-not-branch-clause-reads : goal.returns-then-not-branch-clause-reads
 returns-then-not-branch-clause-reads g c =
-    told_on _ _ _ (Ok c.in_ok-is_found.field-0) _ _ _ c.in_ok-is_found.ensures.reads (λ is. cc) (λ told. tt)
+    told_on _ _ _ (Ok c.in_ok-is_found.field-0) _ _ _ c.in_ok-is_found.ensures.reads
+    (λ is. let same : c.in_ok-is_found.field-0 ≡ true = cc in true≢false (sym same ∙ c.if-not-branch.true)) (λ told. tt)
 
 pub returns-in_err-is_found-clause-reads : goal.returns-in_err-is_found-clause-reads
 returns-in_err-is_found-clause-reads g c =

@@ -5,8 +5,7 @@ use Rattle.office_desk_cabinet.specs.{Registers.held_in, declared.deciding.Taken
 use Rattle.office_desk_cabinet.proofs.Found.{stands_at}
 use Rattle.office_desk.specs.Checking.{MeetsThere, there_in, told_there}
 use Rattle.office_desk.proofs.TriedRecords.{damage_there}
-use Rattle.office_machine.specs.declared.refusal.Refusal.{Refusal}
-use Rattle.office_machine.specs.declared.refusal.Refusal.TheVariants.{Cabinet}
+use Rattle.office_machine.specs.declared.refusal.Refusal.{Refusal, TheVariants.Cabinet}
 use Rattle.office_desk.proofs.there.what_is_there.Goals as goal
 
 pub returns-clause-there : goal.returns-clause-there

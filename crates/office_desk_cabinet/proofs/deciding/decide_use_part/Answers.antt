@@ -2,7 +2,7 @@ use Rattle.std.proofs.Common.{subst, sym, ◌∙◌}
 use Rattle.cabinet_core.specs.declared.command.RecordCommand.TheVariants.{UsePart}
 use Rattle.office_tables_shelf.specs.{Change.changed_by, Places.Line, Places.Order, Places.Part, Places.ReadsAt}
 use Rattle.office_desk_cabinet.proofs.Decided.{decided}
-use Rattle.office_desk_cabinet.proofs.stocking.decide_use_part.Goals as goal
+use Rattle.office_desk_cabinet.proofs.deciding.decide_use_part.Goals as goal
 
 pub returns-clause-decides : goal.returns-clause-decides
 returns-clause-decides g c =
