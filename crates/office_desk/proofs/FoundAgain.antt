@@ -1,10 +1,8 @@
 -- Intersections that were found, and what is known of them.
-use Rattle.std.proofs.Common.{◌≡◌, ◌≢◌, ℕ, Bool, true, false, List, [], Some, Result, Ok, Err, nat_cmp, sym, ap, subst, ◌∙◌, true≢false}
-use Rattle.std.proofs.lemmas.List.Elements.{All-nil}
-use Rattle.std.proofs.lemmas.Map.Lookups.{CmpEqualImpliesEq, exact_unsigned}
-use Rattle.std.proofs.lemmas.Map.Views.{All-insert_key, Contains-from_any, tells_apart}
+use Rattle.std.proofs.Common.{◌≡◌, ℕ, true, List, [], Some, nat_cmp, sym, subst, ◌∙◌}
+use Rattle.std.proofs.lemmas.{List.Elements.All-nil, Map.Lookups.CmpEqualImpliesEq, Map.Lookups.exact_unsigned, Map.Views.All-insert_key, Map.Views.Contains-from_any, Map.Views.tells_apart}
 use Rattle.std.specs.{BTreeSet.BTreeSet, BTreeSet.insert_key, List.All, List.Contains, List.list_any, Ordering.eq_by_cmp}
-use Rattle.office_tables_shelf.specs.{Content.Content, declared.shelf.ShelfFault.ShelfFault}
+use Rattle.office_tables_shelf.specs.Content.{Content}
 use Rattle.office_tables_shelf.proofs.TreeLemmas.{ranged_cmp, then_last}
 use Rattle.office_desk.specs.Recording.{AreFound, TellsIntersection}
 
@@ -28,11 +26,3 @@ pub one_found : (tables : Content) (found more : BTreeSet ℕ) (id : ℕ)
 one_found tables found more id keys all one =
     subst (λ (ids : List ℕ). All (λ id. TellsIntersection tables (Some id) true) ids) (sym keys)
     (All-insert_key ranged_cmp id (λ id. TellsIntersection tables (Some id) true) found.keys all one)
-
--- whether it was told that one is there
-abbrev pub told_there : Result Bool ShelfFault → Bool
-told_there (Ok there) = there
-told_there (Err fault) = false
-
-pub not_told : (result : Result Bool ShelfFault) → told_there result ≡ false → result ≢ Ok true
-not_told result gone is = true≢false (sym (ap told_there is) ∙ gone)

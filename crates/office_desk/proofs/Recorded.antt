@@ -1,25 +1,20 @@
 -- What the commands and queries of the register answer is a step of the office.
 use Rattle.std.proofs.Common.{◌≡◌, ◌++◌, ◌≤◌, ℕ, Bool, true, false, List, [], ◌∷◌, map, Option, Some, None, is_some, arith, refl, ap, sym, subst, subst₂, ◌∙◌, inl, inr}
 use Rattle.std.specs.{Prelude.IsSome, Option.option_map, FinMap.get}
-use Rattle.cabinet_core.specs.declared.{command.RecordCommand.RecordCommand, record.CabinetView.CabinetView, refusal.CabinetRefusal.CabinetRefusal}
+use Rattle.cabinet_core.specs.{declared.command.RecordCommand.RecordCommand, declared.record.CabinetView.CabinetView, Orders.open_at, Register.Register, Step.after_line, Step.line_at, Step.with_record, Stock.stock_of}
 use Rattle.cabinet_core.specs.Cabinet.{Line, added as added_line, same as same_line, refused as refused_line}
-use Rattle.cabinet_core.specs.{Orders.open_at, Register.Register, Step.after_line, Step.line_at, Step.with_record, Stock.stock_of}
-use Rattle.office_tables_shelf.specs.{Cells.Cell, Cells.TableRows, Change.AddNew, Change.changed_by, Content.Content, Counts.writes_in, Shelf.ReadsIntersection, Rows.intersection_columns, Rows.intersection_key, Rows.timing_key}
-use Rattle.office_tables_shelf.specs.declared.{rows.IntersectionRow.IntersectionRow, rows.RowChange.RowChange}
-use Rattle.office_tables_shelf.specs.RegisterStands.{RegisterStandsSound}
-use Rattle.office_tables_decisions.specs.RecordBounds.{IsOneOf, most_record_writes, refusals_of}
-use Rattle.office_tables_decisions.specs.{Damage.MeetsRecordDamage, declared.decided.Decided.Decided}
-use Rattle.office_desk_cabinet.specs.Registers.{LeavesTiming, ShowsCabinet}
-use Rattle.office_desk.specs.Named.{number_of, numbers_about, numbers_of}
-use Rattle.office_desk.specs.Taking.{LeavesAnyTiming, TakesInTurn, TakesWithin, office_with, register_with, reply_taken, taken_by, taken_in}
-use Rattle.office_desk.specs.{Changes.IsRefused, Damage.MeetsCabinetDamage, Deciding.IsDecision, Recording.IsKnownIn, Recording.TellsAbout, Recording.TellsIntersection, StandFor.StandForSound, StandFor.row_of, declared.recording.Taken.Taken}
-use Rattle.office_machine.specs.Step.{answered, cabinet_of, cabinet_shown, is_known, step_if_known, record_step, recorded_at, refusal_of_record, shown, reply_of}
-use Rattle.office_machine.specs.Office.{Office, Intersection}
-use Rattle.office_machine.specs.declared.{reply.CabinetShown.CabinetShown, refusal.Refusal.Refusal, reply.Reply.Reply}
-use Rattle.office_machine.specs.declared.command.Command.TheVariants as command
-use Rattle.office_machine.specs.declared.reply.Reply.TheVariants as reply
+use Rattle.office_tables_shelf.specs.{Cells.Cell, Cells.TableRows, Change.AddNew, Change.changed_by, Content.Content, Counts.writes_in, Shelf.ReadsIntersection, Rows.intersection_columns, Rows.intersection_key, Rows.timing_key, declared.rows.IntersectionRow.IntersectionRow, declared.rows.RowChange.RowChange, declared.rows.Table.Table, RegisterStands.RegisterStandsSound}
+use Rattle.office_tables_decisions.specs.{RecordBounds.IsOneOf, RecordBounds.most_record_writes, Damage.MeetsRecordDamage, declared.decided.Decided.Decided}
+use Rattle.office_desk_cabinet.specs.{Registers.ShowsCabinet, declared.deciding.Taken.Taken}
+use Rattle.office_desk.specs.{Named.numbers_about, Named.numbers_of, Taking.TakesNext, Taking.office_with, Taking.taken_in, Changes.IsRefused, Damage.MeetsCabinetDamage, Deciding.IsDecision, Recording.IsKnownIn, Recording.TellsAbout, Recording.TellsIntersection, StandFor.StandForSound, StandFor.row_of}
+use Rattle.office_desk_cabinet.specs.Decides.{LeavesTiming, WritesRecord, register_with, reply_taken, taken_by}
+use Rattle.office_machine.specs.{declared.refusal.Refusal.TheVariants.Damaged, Office.Office, Office.Intersection, declared.reply.CabinetShown.CabinetShown, declared.reply.Reply.Reply}
+use Rattle.office_machine.specs.Step.{answered, cabinet_of, cabinet_shown, is_known, step_if_known, record_step, recorded_at, shown, reply_of}
 use Rattle.office_desk_timing.proofs.Stands.{row_read}
 use Rattle.office_desk.proofs.Writes.{record_writes}
+use Rattle.cabinet_core.specs.declared.command.RecordCommand.TheVariants as register
+use Rattle.office_machine.specs.declared.command.Command.TheVariants as command
+use Rattle.office_machine.specs.declared.reply.Reply.TheVariants as reply
 
 -- ---- whether the intersection is there
 
@@ -40,9 +35,6 @@ pub about_tells : (tables : Content) (asked about : Option ℕ) (was known : Boo
 about_tells tables asked about was known same is tells = subst₂ (TellsIntersection tables) same is tells
 
 -- ---- a command
-
-pub nothing_leaves : LeavesAnyTiming []
-nothing_leaves tables = record { intersection = refl; timing = refl; draft = refl }
 
 pub register_of : (tables : Content) (office : Office) → StandForSound tables office → RegisterStandsSound tables office.register
 register_of tables office stands = record { stand = stands.stand.register; sound = stands.sound.register }
@@ -98,49 +90,43 @@ meets_record tables c (Some id) there damage = inr (sym there, damage)
 
 -- ---- the decision
 
-among_map : {X Y : Type 0} (f : X → Y) (xs : List X) (x : X) → IsOneOf xs x → IsOneOf (map f xs) (f x)
-among_map f [] x among = among
-among_map f (y ∷ ys) x (inl same) = inl (ap f same)
-among_map f (y ∷ ys) x (inr later) = inr (among_map f ys x later)
-
-about_more : (about : Option ℕ) (numbers : List ℕ) (n : ℕ) → IsOneOf numbers n → IsOneOf (numbers_about about numbers) n
-about_more None numbers n among = among
-about_more (Some id) numbers n among = inr among
-
 -- that the intersection is not there is told only of a command about one
 pub unknown_named : (about : Option ℕ) (numbers : List ℕ) → IsSome about → IsOneOf (numbers_about about numbers) 10
 unknown_named None numbers asked = absurd (let f : false ≡ true = asked in cc)
 unknown_named (Some id) numbers asked = inl refl
 
--- a refusal of the register is one that the table has for the record
-pub refused_named : (c : RecordCommand) (why : CabinetRefusal) (said : Refusal) → said ≡ refusal_of_record why → IsOneOf (refusals_of c) why → IsOneOf (numbers_of (command.Record c)) (number_of said)
-refused_named c why said is named =
-    subst (λ (w : Refusal). IsOneOf (numbers_of (command.Record c)) (number_of w)) (sym is)
-    (about_more (cabinet_of c) _ _ (among_map (λ refused. number_of (refusal_of_record refused)) (refusals_of c) why named))
+-- no refusal of its table is that for a damaged row
+not_damaged : (c : RecordCommand) → ¬ IsOneOf (numbers_of (command.Record c)) 91
+not_damaged (register.Inspect id asked) among = grind arith
+not_damaged (register.OpenOrder id asked) among = grind arith
+not_damaged (register.UsePart id asked) among = grind arith
+not_damaged (register.CloseOrder id n asked) among = grind arith
+not_damaged (register.Receive asked) among = grind arith
 
 -- a record that was taken after no other is decided
-pub record_decides : (is_honest : Type 0) (tables : Content) (c : RecordCommand) (t : Taken) (before rows : List RowChange) (decided : Decided) → before ≡ []
-    → decided.reply ≡ reply_taken t → decided.changes.items ≡ rows → (is_honest → TakesInTurn tables before c t (before ++ rows)) → TakesWithin before c t (before ++ rows)
+pub record_decides : (is_honest : Type 0) (tables : Content) (c : RecordCommand) (t : Taken) (pending rows : List RowChange) (decided : Decided) → pending ≡ []
+    → decided.reply ≡ reply_taken t → decided.changes.items ≡ rows → (is_honest → TakesNext tables pending c t rows) → WritesRecord c t rows
     → IsDecision is_honest tables (command.Record c) decided
-record_decides is_honest tables c t before rows decided none is list takes within =
-    let none_before : TakesWithin [] c t rows = subst (λ first. TakesWithin first c t (first ++ rows)) none within in
-    let now = λ (honest : is_honest). subst (λ first. TakesInTurn tables first c t (first ++ rows)) none (takes honest) in
+record_decides is_honest tables c t pending rows decided none is list takes writes =
+    let now = λ (honest : is_honest). subst (λ first. TakesNext tables first c t rows) none (takes honest) in
     record {
       step = λ honest office stands.
-          let took = (now honest).step office stands office.register (register_of tables office stands) in
+          let took = (now honest).2 in
+          let register = register_of tables office stands in
           record {
             next = office_with t office c;
-            step = inr (recorded office c ∙ (λ k. ((ap reply_taken (sym took.told) ∙ sym is) k, office_with (sym took.told k) office c)));
+            step = inr (recorded office c
+                ∙ (λ k. let t_now = (took.told office.register register ∙ ap (λ known. taken_by known (line_at office.register c)) ((now honest).1.known office stands)) in
+                ((ap reply_taken (sym t_now) ∙ sym is) k, office_with (sym t_now k) office c)));
             stand = subst (λ list. StandForSound (changed_by tables list) (office_with t office c)) (sym list)
-                (stands_after tables rows office (register_with t office.register c) stands (none_before.leaves nothing_leaves tables) took.stand);
+                (stands_after tables rows office (register_with t office.register c) stands took.leaves (took.stand office.register register));
           };
-      writes = λ honest. record_writes tables c decided.changes.items (λ table. subst (λ list. writes_in table list ≤ most_record_writes c table) (sym list)
-          (let few = none_before.writes table in omega (arith, few)));
-      news = λ honest. subst (AddNew tables) (sym list) ((now honest).news tt);
-      refused = λ refused. list ∙ none_before.refused (subst IsRefused is refused);
+      writes = λ honest. record_writes tables c decided.changes.items (subst (λ list. (table : Table) → writes_in table list ≤ most_record_writes c table) (sym list) writes.writes);
+      news = λ honest. subst (AddNew tables) (sym list) (now honest).2.news;
+      refused = λ refused. list ∙ writes.refused (subst IsRefused is refused);
       query = λ query. absurd query;
-      named = λ why e. none_before.named why (sym is ∙ e);
-      damaged = λ e. none_before.undamaged (sym is ∙ e);
+      named = λ why e. writes.named why (sym is ∙ e);
+      damaged = λ e. not_damaged c (writes.named Damaged (sym is ∙ e));
     }
 
 -- ---- queries

@@ -1,16 +1,13 @@
 -- Over a run the register takes the records that were accepted, and no others: so its orders are open as they say, and its stock is theirs.
 use Rattle.std.proofs.Common.{◌≡◌, inl, inr, ℕ, List, [], ◌∷◌, ◌++◌, Option, Some, None, refl, ap, sym, subst, append-nil}
 use Rattle.std.specs.FinMap.{get}
-use Rattle.cabinet_core.specs.{Cabinet.Line, Orders.open_at, Register.Register, Runs.AreAccepted, Step.line_at, Step.with_record}
-use Rattle.cabinet_core.specs.declared.command.RecordCommand.{RecordCommand}
+use Rattle.cabinet_core.specs.{Cabinet.Line, Orders.open_at, Register.Register, Runs.AreAccepted, Step.line_at, Step.with_record, declared.command.RecordCommand.RecordCommand}
 use Rattle.cabinet_core.proofs.RecordLaws.{open_law, stock_law}
 use Rattle.office_machine.specs.RegisterRuns.{accepted_of, records_accepted, new_by, new_among, RegisterRuns, ShowsAccepted, ShowAccepted}
 use Rattle.office_machine.specs.Step.{Step, Run, answered, shown}
-use Rattle.office_machine.specs.Office.{Office, Intersection, IsSound}
+use Rattle.office_machine.specs.{Office.Office, Office.Intersection, Office.IsSound, declared.command.Command.Command, declared.refusal.Refusal.Refusal, declared.refusal.Refusal.TheVariants.Unavailable, declared.reply.Reply.Reply, declared.reply.Reply.TheVariants.OpenOrders, declared.reply.Reply.TheVariants.Refused}
 use Rattle.office_desk.proofs.Walks.{HoldsOfEach, HoldsOfRecords, records_so, step_so}
 use Rattle.office_desk.proofs.ShownRegister.{IsTidy, accepted_more, accepted_tidy, open_shown, sound_tidy, stock_shown}
-use Rattle.office_machine.specs.declared.{command.Command.Command, refusal.Refusal.Refusal, refusal.Refusal.TheVariants.Unavailable, reply.Reply.Reply}
-use Rattle.office_machine.specs.declared.reply.Reply.TheVariants.{OpenOrders, Refused}
 use Rattle.office_machine.specs.declared.command.Command.TheVariants as command
 
 -- ---- one step

@@ -1,16 +1,13 @@
 -- What was recorded stays recorded: so an import that was accepted finds all of its records there when it is sent again.
 use Rattle.std.proofs.Common.{◌≡◌, inl, inr, ℕ, ◌+◌, true, false, cond, List, [], ◌∷◌, length, Option, Some, None, Result, Ok, Err, refl, ap, sym, subst, ◌∙◌, arith}
 use Rattle.std.specs.{Prelude.is_some, Cmp.nat_cmp_total, FinMap.get, FinMap.get-insert, Ordering.nat_cmp, Ordering.eq_by_cmp}
-use Rattle.cabinet_core.specs.{Cabinet.added as added_line, Cabinet.same as same_line, Step.line_at, Step.with_record}
-use Rattle.cabinet_core.specs.declared.command.RecordCommand.{RecordCommand}
+use Rattle.cabinet_core.specs.{Cabinet.added as added_line, Cabinet.same as same_line, Step.line_at, Step.with_record, declared.command.RecordCommand.RecordCommand}
 use Rattle.cabinet_core.proofs.RecordKept.{same_after, same_kept}
 use Rattle.office_machine.specs.Step.{Step, Run, with_intersection, new_intersection, cabinet_of, is_known, with_recorded, import_by, import_from, import_step}
-use Rattle.office_machine.specs.{Office.Office, Office.Intersection, Repeats.IsRepeat, Repeats.AreRepeats, Repeats.Repeats}
-use Rattle.office_machine.specs.declared.{command.Command.Command, refusal.Refusal.Refusal, refusal.Refusal.TheVariants.Unavailable, reply.Reply.Reply}
-use Rattle.office_machine.specs.declared.reply.Reply.TheVariants.{Imported, Refused}
-use Rattle.office_machine.specs.declared.command.Command.TheVariants as command
+use Rattle.office_machine.specs.{Office.Office, Office.Intersection, Repeats.IsRepeat, Repeats.AreRepeats, Repeats.Repeats, declared.command.Command.Command, declared.refusal.Refusal.Refusal, declared.refusal.Refusal.TheVariants.Unavailable, declared.reply.Reply.Reply, declared.reply.Reply.TheVariants.Imported, declared.reply.Reply.TheVariants.Refused}
 use Rattle.office_desk.proofs.Recorded.{same_known}
 use Rattle.office_desk.proofs.Walks.{HoldsOfEach, HoldsOfRecords, records_so, step_so}
+use Rattle.office_machine.specs.declared.command.Command.TheVariants as command
 
 -- ---- records that are there
 

@@ -1,29 +1,17 @@
 -- Records of the register that are tried in turn, and none of them stored: what would come of each, and what the register holds where one is refused.
 use Rattle.std.specs.Prelude.{◌≡◌, List, [], ◌∷◌, Option, Some, None}
-use Rattle.cabinet_core.specs.Cabinet.{on_hand}
-use Rattle.cabinet_core.specs.Register.{Register}
-use Rattle.cabinet_core.specs.declared.command.RecordCommand.{RecordCommand}
+use Rattle.cabinet_core.specs.{Cabinet.on_hand, Register.Register, declared.command.RecordCommand.RecordCommand, declared.refusal.CabinetRefusal.CabinetRefusal}
+use Rattle.office_desk_cabinet.specs.{Registers.held_in, declared.deciding.Taken.Taken}
+use Rattle.office_desk.specs.{Taking.TakesNext, Taking.office_with, Taking.taken_in, declared.checking.Checked.Checked, declared.there.There.There, StandFor.StandForSound}
+use Rattle.office_machine.specs.{Office.Office, declared.refusal.Refusal.TheVariants.Cabinet as OfRegister}
+use Rattle.office_tables_decisions.specs.Damage.{MeetsRecordDamage}
+use Rattle.office_tables_shelf.specs.{Change.changed_by, Content.Content, Places.Place, Places.RecordAt, RegisterStands.RegisterStandsSound, declared.rows.RowChange.RowChange}
 use Rattle.cabinet_core.specs.declared.command.RecordCommand.TheVariants as asks
-use Rattle.cabinet_core.specs.declared.refusal.CabinetRefusal.{CabinetRefusal}
 use Rattle.cabinet_core.specs.declared.refusal.CabinetRefusal.TheVariants as refusal
-use Rattle.office_desk_cabinet.specs.Registers.{held_in}
-use Rattle.office_desk.specs.Taking.{TakesRecord, office_with, taken_in}
-use Rattle.office_desk.specs.declared.checking.Checked.{Checked}
 use Rattle.office_desk.specs.declared.checking.Checked.TheVariants as checked
-use Rattle.office_desk.specs.declared.recording.Taken.{Taken}
-use Rattle.office_desk.specs.declared.recording.Taken.TheVariants as taken
-use Rattle.office_desk.specs.declared.there.There.{There}
+use Rattle.office_desk_cabinet.specs.declared.deciding.Taken.TheVariants as taken
 use Rattle.office_desk.specs.declared.there.There.TheVariants as there
-use Rattle.office_desk.specs.StandFor.{StandForSound}
-use Rattle.office_machine.specs.Office.{Office}
-use Rattle.office_machine.specs.declared.refusal.Refusal.{Refusal}
-use Rattle.office_machine.specs.declared.refusal.Refusal.TheVariants.{Cabinet as OfRegister}
-use Rattle.office_tables_shelf.specs.Change.{changed_by}
-use Rattle.office_tables_shelf.specs.Content.{Content}
 use Rattle.office_tables_shelf.specs.Places as place
-use Rattle.office_tables_shelf.specs.Places.{Place, ReadsAt, RecordAt}
-use Rattle.office_tables_shelf.specs.RegisterStands.{RegisterStandsSound}
-use Rattle.office_tables_shelf.specs.declared.rows.RowChange.{RowChange}
 
 -- ---- what is there
 
@@ -51,36 +39,40 @@ told_there (place.Part code) hand = there.OnHand code (on_hand hand)
 told_there (place.Delivery code n) None = there.Nothing
 told_there (place.Delivery code n) (Some it) = there.Delivery it
 
--- what is told of a register with a refused record: what it holds at the place of that refusal; nothing where another refusal than one of the register is given,
--- as when the intersection is not there
-abbrev pub there_in : Register → RecordCommand → Refusal → There
-there_in r c (OfRegister why) = told_there (place_told c why) (held_in r (place_told c why))
-there_in r c why = there.Nothing
+-- what is told of a register with a record that was taken so: what it holds at the place of its own refusal; else nothing, as where the intersection is not there
+abbrev pub there_in : Register → RecordCommand → Taken → There
+there_in r c (taken.Refused (OfRegister why)) = told_there (place_told c why) (held_in r (place_told c why))
+there_in r c t = there.Nothing
 
--- what is told of a place is read from the stored rows once the pending ones are written
-abbrev pub ReadsThere : Content → List RowChange → (at : Place) → There → Type 0
-ReadsThere stored pending at it = (found : Option (RecordAt at)) × ReadsAt (changed_by stored pending) at found × (it ≡ told_there at found)
+-- this tells what is there, in every sound register that the tables stand for once the pending rows are written
+abbrev pub TellsThere : Content → (pending : List RowChange) → RecordCommand → Taken → There → Type 0
+TellsThere stored pending c t it = (r : Register) → RegisterStandsSound (changed_by stored pending) r → it ≡ there_in r c t
+
+-- the register refuses the record, and a row that it reads is no record
+abbrev pub MeetsThere : Content → RecordCommand → Taken → Type 0
+MeetsThere tables c (taken.Refused (OfRegister why)) = MeetsRecordDamage tables c
+MeetsThere tables c t = ⊥
 
 -- ---- records in turn
 
--- what would come of a record on this register, as it is told: a refusal comes with what the register holds at the place that it is about, if it is about one
-abbrev pub checked_by : Register → RecordCommand → Taken → Checked
-checked_by r c taken.Added = checked.Added
-checked_by r c taken.Same = checked.Same
-checked_by r c (taken.Refused why) = checked.Refused why (there_in r c why)
+-- what would come of a record, as it is told: a refusal comes with what is there
+abbrev pub checked_as : Taken → There → Checked
+checked_as taken.Added it = checked.Added
+checked_as taken.Same it = checked.Same
+checked_as (taken.Refused why) it = checked.Refused why it
 
 -- what would come of records in turn, each on the office as those before it leave it; one that is refused leaves it as it was
 abbrev pub checked_from : Office → List RecordCommand → List Checked
 checked_from office [] = []
 checked_from office (c ∷ cs) =
-    checked_by office.register c (taken_in office c) ∷ checked_from (office_with (taken_in office c) office c) cs
+    let t = taken_in office c in
+    checked_as t (there_in office.register c t) ∷ checked_from (office_with t office c) cs
 
 -- the list tells what would come of each record, whichever sound office the tables stand for
 abbrev pub Checks : Content → List RecordCommand → List Checked → Type 0
 Checks tables records list = (office : Office) → StandForSound tables office → list ≡ checked_from office records
 
--- a record is taken so after the rows pending before it, and what is told of it is that, in every sound register that the tables stand for with those rows
-abbrev pub ChecksRecord : Content → (before : List RowChange) → RecordCommand → Checked → (after : List RowChange) → Type 0
-ChecksRecord stored before c it after =
-    (t : Taken) × TakesRecord stored before c t after
-    × ((r : Register) → RegisterStandsSound (changed_by stored before) r → it ≡ checked_by r c t)
+-- a record is taken so after the pending rows, and what is told of it is that
+abbrev pub ChecksRecord : Content → (pending : List RowChange) → RecordCommand → Checked → (rows : List RowChange) → Type 0
+ChecksRecord stored pending c it rows =
+    (t : Taken) × (at : There) × TakesNext stored pending c t rows × TellsThere stored pending c t at × (it ≡ checked_as t at)

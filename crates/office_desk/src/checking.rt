@@ -2,17 +2,15 @@
 //! stored.
 ghost use Rattle.std.specs.Prelude.{◌≡◌, ◌≢◌, ◌++◌, [], ◌∷◌, IfOk, OnOk};
 ghost use Rattle.office_tables_decisions.specs.Reads.{OnlyReads, Reports};
-ghost use Rattle.office_desk.specs.Checking.{Checks, ChecksRecord};
-ghost use Rattle.office_desk.specs.Damage.{MeetsCabinetDamage, MeetsImportDamage};
-ghost use Rattle.office_desk.specs.Recording.{AreFound};
+ghost use Rattle.office_desk.specs.{Checking.Checks, Checking.ChecksRecord, Checking.checked_as, Damage.MeetsCabinetDamage, Damage.MeetsImportDamage, Recording.AreFound};
 ghost use Rattle.office_machine.specs.Step.{cabinet_of as about_of};
 
 use crate::importing::take_record;
-use crate::recording::Taken;
 use crate::there::{There, what_is_there};
 use cabinet_core::RecordCommand;
-use office_desk_cabinet::Pending;
+use office_desk_cabinet::{Pending, Taken};
 use office_machine::refusal::Refusal;
+use office_tables_shelf::rows::RowChange;
 use office_tables_shelf::shelf::{Shelf, ShelfFault};
 use signal_records::{InterId, NoMemory};
 use std::alloc::Global;
@@ -29,38 +27,37 @@ pub enum Checked {
     Refused { refusal: Refusal, there: There },
 }
 
-/// Tries a record after those whose rows are pending, and gives these rows back with its own behind
-/// them. The row of an intersection in `found` is not read again.
+/// What would come of a record, by how it was taken and by what is there if it is refused.
+fn checked_as(taken: Taken, there: There) -> Checked
+    ensures { result ≡ checked_as taken there }
+{
+    match taken {
+        Taken::Added => Checked::Added,
+        Taken::Same => Checked::Same,
+        Taken::Refused(refusal) => Checked::Refused { refusal, there },
+    }
+}
+
+/// Tries a record after those whose rows are pending, and gives its own rows. The row of an
+/// intersection in `found` is not read again.
 fn check_record<S: Shelf>(
     shelf: &mut S,
     alloc: Global,
     found: &mut BTreeSet<InterId>,
-    pending: Pending,
+    pending: &Pending,
     command: &RecordCommand,
-) -> Result<(Checked, Pending), ShelfFault>
+) -> Result<(Checked, Vec<RowChange>), ShelfFault>
     requires { S.is_honest shelf.old → AreFound (S.content shelf.old) found.old }
     ensures found { IfOk result (λ _. S.is_honest shelf.new →
         AreFound (S.content shelf.old) found.new) }
-    ensures checks { Reports (S.is_honest shelf.new) result
-        (λ checked. ChecksRecord (S.content shelf.old) pending command.now checked.0 checked.1)
+    ensures checks { Reports (S.is_honest shelf.new) result (λ checked.
+        ChecksRecord (S.content shelf.old) pending.now command.now checked.0 checked.1.items)
         (MeetsCabinetDamage (S.content shelf.old) command.now (about_of command.now)) }
-    ensures reads { OnlyReads S.Shelf (pending ≡ []) result shelf.old shelf.new }
+    ensures reads { OnlyReads S.Shelf (pending.now ≡ []) result shelf.old shelf.new }
 {
-    let (taken, next) = take_record(shelf, alloc, found, pending, command)?;
-    match taken {
-        Taken::Added => Ok((Checked::Added, next)),
-        Taken::Same => Ok((Checked::Same, next)),
-        Taken::Refused(refusal) => match refusal {
-            Refusal::Cabinet(why) => {
-                let there = what_is_there(shelf, alloc, &next, command, why)?;
-                Ok((Checked::Refused { refusal, there }, next))
-            }
-            _ => {
-                let there = There::Nothing;
-                Ok((Checked::Refused { refusal, there }, next))
-            }
-        },
-    }
+    let (taken, rows) = take_record(shelf, alloc, found, pending, command)?;
+    let there = what_is_there(shelf, alloc, pending, command, taken)?;
+    Ok((checked_as(taken, there), rows))
 }
 
 /// Adds what would come of a record behind what would come of those before it.
@@ -87,8 +84,8 @@ pub(crate) fn check_records<S: Shelf>(
     let mut pending = Pending::new(alloc);
     let mut checked = Vec::new(alloc);
     for command in records {
-        let (one, next) = check_record(shelf, alloc, &mut found, pending, command)?;
-        pending = next;
+        let (one, rows) = check_record(shelf, alloc, &mut found, &pending, command)?;
+        pending = pending.with(rows)?;
         keep(&mut checked, one)?;
     }
     Ok(checked)

@@ -1,37 +1,13 @@
 //! The intersections that were found in the tables, so that the row of none of them is read twice.
-ghost use Rattle.std.specs.Prelude.{◌≡◌, ◌≢◌, true, false, Ok, IfOk, IsSome, IsTrue, OnErr, OnOk};
-ghost use Rattle.office_tables_shelf.specs.Content.{Content};
+ghost use Rattle.std.specs.Prelude.{◌≡◌, ◌≢◌, true, false, Ok, IfOk, IsSome};
 ghost use Rattle.office_tables_decisions.specs.Reads.{OnlyReads, Reports};
-ghost use Rattle.office_desk.specs.Recording.{AreFound, HasDamagedAbout, IsAmong, TellsIntersection};
+ghost use Rattle.office_desk.specs.Recording.{AreFound, HasDamagedAbout, TellsIntersection};
 
 use crate::recording::is_known;
 use office_tables_shelf::shelf::{Shelf, ShelfFault};
-use signal_records::{InterId, NoMemory};
+use signal_records::InterId;
 use std::alloc::Global;
 use std::collections::BTreeSet;
-
-/// Whether an intersection is asked for that was found before.
-fn is_among(found: &BTreeSet<InterId>, about: Option<InterId>) -> bool
-    ensures { IsTrue result → IsAmong found.now about }
-{
-    match about {
-        Some(id) => found.contains(&id),
-        None => false,
-    }
-}
-
-/// Adds the intersection that was asked for, if any, to those that were found.
-fn keep(found: &mut BTreeSet<InterId>, about: Option<InterId>) -> Result<(), NoMemory>
-    ensures kept { OnOk result ((tables : Content) → AreFound tables found.old →
-        TellsIntersection tables about true → AreFound tables found.new) }
-    ensures fault { OnErr result (IsSome about) }
-{
-    let Some(id) = about else {
-        return Ok(());
-    };
-    found.insert(id)?;
-    Ok(())
-}
 
 /// Whether the intersection is there, or none is asked for. The row of one that was found before is
 /// not read again, and one that is there now is kept among those that were found.
@@ -48,15 +24,19 @@ pub(crate) fn is_found<S: Shelf>(
         (TellsIntersection (S.content shelf.old) about)
         (HasDamagedAbout (S.content shelf.old) about) }
     ensures asked { result ≡ Ok false → IsSome about }
-    ensures fault { OnErr result (IsSome about) }
     ensures reads { OnlyReads S.Shelf (result ≢ Ok true) result shelf.old shelf.new }
 {
-    if is_among(found, about) {
+    let Some(id) = about else {
+        return Ok(true);
+    };
+    if found.contains(&id) {
         return Ok(true);
     }
     if !is_known(shelf, alloc, about)? {
         return Ok(false);
     }
-    keep(found, about)?;
-    Ok(true)
+    match found.insert(id) {
+        Ok(_) => Ok(true),
+        Err(_) => Err(ShelfFault::NoMemory),
+    }
 }

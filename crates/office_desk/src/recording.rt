@@ -1,34 +1,20 @@
-//! A record of the register is taken, after those whose rows are pending.
-ghost use Rattle.std.specs.Prelude.{◌≡◌, ◌++◌, true, false, Ok, IfOk, IsSome, OnErr, [], ⊤};
+//! A record of the register is decided, where its intersection is there.
+ghost use Rattle.std.specs.Prelude.{◌≡◌, false, Ok, IsSome, OnErr, ⊤};
 ghost use Rattle.office_tables_decisions.specs.Reads.{OnlyReads, Reports};
-ghost use Rattle.office_desk.specs.Damage.{MeetsCabinetDamage};
-ghost use Rattle.office_desk.specs.Deciding.{Decides};
-ghost use Rattle.office_desk.specs.Recording.{HasDamagedAbout, TellsIntersection};
-ghost use Rattle.office_desk.specs.Taking.{TakesInTurn, TakesWithin, reply_taken};
-ghost use Rattle.office_machine.specs.Step.{cabinet_of as about_of, refusal_of_record};
+ghost use Rattle.office_desk_cabinet.specs.Decides.{reply_taken};
+ghost use Rattle.office_desk.specs.{Deciding.Decides, Recording.HasDamagedAbout, Recording.TellsIntersection};
+ghost use Rattle.office_machine.specs.Step.{cabinet_of as about_of};
 
-use cabinet_core::{CabinetRefusal, RecordCommand};
-use office_desk_cabinet::{Pending, Registered, decide_record};
+use cabinet_core::RecordCommand;
+use office_desk_cabinet::{Pending, Taken, decide_record};
 use office_desk_timing::intersection_row;
 use office_machine::command::Command;
 use office_machine::refusal::Refusal;
 use office_machine::reply::Reply;
 use office_tables_decisions::decided::Decided;
-use office_tables_shelf::rows::RowChange;
 use office_tables_shelf::shelf::{Shelf, ShelfFault};
 use signal_records::InterId;
 use std::alloc::Global;
-
-/// What comes of a record of the register.
-#[derive(Clone, Copy)]
-pub(crate) enum Taken {
-    /// The record is new: it is added.
-    Added,
-    /// An equal record is there: nothing is added.
-    Same,
-    /// The record is refused, for this reason.
-    Refused(Refusal),
-}
 
 /// The intersection whose cabinet a command is about; a delivery is about none.
 pub(crate) fn cabinet_of(command: &RecordCommand) -> Option<InterId>
@@ -64,44 +50,6 @@ pub(crate) fn is_known<S: Shelf>(
     Ok(row.is_some())
 }
 
-/// A refusal of the register as one of the office: want of memory is Unavailable.
-fn register_refusal(refusal: CabinetRefusal) -> Refusal
-    ensures { result ≡ refusal_of_record refusal }
-{
-    match refusal {
-        CabinetRefusal::NoMemory => Refusal::Unavailable,
-        refusal => Refusal::Cabinet(refusal),
-    }
-}
-
-/// Takes a record after those whose rows are pending, and gives its own rows; nothing is written.
-/// The caller tests that the intersection is there.
-pub(crate) fn take_known<S: Shelf>(
-    shelf: &mut S,
-    alloc: Global,
-    pending: &Pending,
-    command: &RecordCommand,
-) -> Result<(Taken, Vec<RowChange>), ShelfFault>
-    requires { S.is_honest shelf.old →
-        TellsIntersection (S.content shelf.old) (about_of command.now) true }
-    ensures takes { Reports (S.is_honest shelf.new) result
-        (λ taken. TakesInTurn (S.content shelf.old) pending.now command.now taken.0
-        (pending.now ++ taken.1.items))
-        (MeetsCabinetDamage (S.content shelf.old) command.now (about_of command.now)) }
-    ensures within { IfOk result (λ taken.
-        TakesWithin pending.now command.now taken.0 (pending.now ++ taken.1.items)) }
-    ensures reads { OnlyReads S.Shelf (pending.now ≡ []) result shelf.old shelf.new }
-{
-    let told = decide_record(shelf, alloc, pending, command)?;
-    match told {
-        Registered::Added(rows) => Ok((Taken::Added, rows)),
-        Registered::Same => Ok((Taken::Same, Vec::new(alloc))),
-        Registered::Refused(refusal) => {
-            Ok((Taken::Refused(register_refusal(refusal)), Vec::new(alloc)))
-        }
-    }
-}
-
 /// The reply to one record that was taken so.
 fn reply_to(taken: Taken) -> Reply
     ensures { result ≡ reply_taken taken }
@@ -128,7 +76,7 @@ pub(crate) fn decide_record_command<S: Shelf>(
         return Ok(Decided::from_refusal(alloc, Refusal::UnknownIntersection));
     }
     let pending = Pending::new(alloc);
-    let (taken, changes) = take_known(shelf, alloc, &pending, command)?;
+    let (taken, changes) = decide_record(shelf, alloc, &pending, command)?;
     let reply = reply_to(taken);
     Ok(Decided { reply, changes })
 }

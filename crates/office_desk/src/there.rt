@@ -1,14 +1,15 @@
 //! What the register holds where it refuses a record, to be told with the refusal.
-ghost use Rattle.std.specs.Prelude.{◌≡◌, IfOk, []};
-ghost use Rattle.office_tables_shelf.specs.Places as place;
-ghost use Rattle.office_tables_shelf.specs.Places.{DamagedAt, found_at, place_of};
+ghost use Rattle.std.specs.Prelude.{◌≡◌, IfOk};
+ghost use Rattle.office_tables_shelf.specs.Places.{found_at, place_of};
 ghost use Rattle.office_tables_decisions.specs.Reads.{OnlyReads, Reports};
-ghost use Rattle.office_desk.specs.Checking.{ReadsThere, place_told, told_there};
+ghost use Rattle.office_desk.specs.Checking.{MeetsThere, TellsThere, place_told, told_there};
+ghost use Rattle.office_tables_shelf.specs.Places as place;
 
 use cabinet_core::{
     CabinetRefusal, Delivery, Hand, Inspection, Order, PartCode, RecordCommand, UsedLine,
 };
-use office_desk_cabinet::{Pending, record_at};
+use office_desk_cabinet::{Pending, Taken, record_at};
+use office_machine::refusal::Refusal;
 use office_tables_shelf::register::{RegisterKey, RegisterRecord};
 use office_tables_shelf::shelf::{Shelf, ShelfFault};
 use signal_records::NoMemory;
@@ -89,20 +90,23 @@ fn key_told<'a>(command: &'a RecordCommand, why: CabinetRefusal) -> RegisterKey<
     }
 }
 
-/// What the register holds where it refuses a record, once the pending rows are written. The fault
-/// is that of the shelf.
+/// What the register holds where it refuses a record that was taken so, once the pending rows are
+/// written; nothing where it does not refuse it. The fault is that of the shelf.
 pub(crate) fn what_is_there<S: Shelf>(
     shelf: &mut S,
     alloc: Global,
     pending: &Pending,
     command: &RecordCommand,
-    why: CabinetRefusal,
+    taken: Taken,
 ) -> Result<There, ShelfFault>
     ensures there { Reports (S.is_honest shelf.new) result
-        (ReadsThere (S.content shelf.old) pending.now (place_told command.now why))
-        (DamagedAt (S.content shelf.old) (place_told command.now why)) }
-    ensures reads { OnlyReads S.Shelf (pending.now ≡ []) result shelf.old shelf.new }
+        (TellsThere (S.content shelf.old) pending.now command.now taken)
+        (MeetsThere (S.content shelf.old) command.now taken) }
+    ensures reads { OnlyReads S.Shelf ⊥ result shelf.old shelf.new }
 {
+    let Taken::Refused(Refusal::Cabinet(why)) = taken else {
+        return Ok(There::Nothing);
+    };
     let key = key_told(command, why);
     let found = record_at(shelf, alloc, pending, &key)?;
     Ok(there_at(&key, found)?)

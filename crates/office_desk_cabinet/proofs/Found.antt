@@ -1,21 +1,17 @@
 -- What tables that stand for a register have under its keys, and that what is read there is the register's.
-use Rattle.std.proofs.Common.{◌≡◌, ℕ, Bool, true, false, cond, List, Option, None, Some, IfSome, option_map, refl, ap, ◌∙◌, arith}
+use Rattle.std.proofs.Common.{◌≡◌, ℕ, true, false, cond, List, Option, None, Some, IfSome, option_map, refl, ap, ◌∙◌, arith}
 use Rattle.std.proofs.lemmas.{Cmp.nat_list_cmp_total, Option.IfSome_then}
 use Rattle.std.specs.FinMap.{get}
-use Rattle.cabinet_core.specs.{Register.Register, Sound.IsSoundRegister, Step.Standing, Step.standing_in}
+use Rattle.cabinet_core.specs.{Register.Register, Sound.IsSoundRegister, Step.Standing, Step.standing_in, declared.command.RecordCommand.RecordCommand}
 use Rattle.cabinet_core.specs.Stock.{hand_of, pieces, stock_by_code, was_delivered}
 use Rattle.cabinet_core.specs.declared.command.RecordCommand.TheVariants.{Inspect, OpenOrder, UsePart, CloseOrder, Receive}
-use Rattle.cabinet_core.specs.declared.command.RecordCommand.{RecordCommand}
 use Rattle.cabinet_core.proofs.{KeyOrders.record_total, KeyOrders.line_total, KeyOrders.delivery_total, StockList.stock_has}
-use Rattle.office_tables_shelf.specs.CabinetReads.{IsHand}
+use Rattle.office_tables_shelf.specs.{CabinetReads.IsHand, Cells.TableRows, Content.Content}
 use Rattle.office_tables_shelf.specs.CabinetRows.{inspection_key, inspection_columns, order_key, order_columns, used_key, used_columns, delivery_key, delivery_columns, part_key, part_columns}
-use Rattle.office_tables_shelf.specs.{Cells.TableRows, Content.Content}
-use Rattle.office_tables_shelf.proofs.{CabinetLemmas.part_order, KeyCells.record_order, KeyCells.line_order, KeyCells.delivery_order}
-use Rattle.office_tables_shelf.proofs.StoredMaps.{get_stored}
+use Rattle.office_tables_shelf.proofs.{CabinetLemmas.part_order, KeyCells.record_order, KeyCells.line_order, KeyCells.delivery_order, StoredMaps.get_stored}
 use Rattle.office_desk_cabinet.specs.RegisterStands.{inspection_cells, order_cells, line_cells, delivery_cells, RegisterStands, RegisterStandsSound}
 use Rattle.office_tables_shelf.specs.Places.{Place, Inspection, Order, Line, Part, Delivery, RecordAt, WithinAt, ReadsAt, key_cells, own_key, columns_at}
 use Rattle.office_desk_cabinet.specs.Registers.{held_in}
-use Rattle.office_desk_cabinet.proofs.Lines.{ReadsKeys}
 use Rattle.office_desk_cabinet.proofs.Places.{cells_at, reads_tell}
 
 -- ---- what the tables have
@@ -36,14 +32,10 @@ held_at tables r stand (Delivery code n) = ap (λ (rows : TableRows). get rows (
 
 -- what is on hand of a part in a sound register is within its limits
 pub hand_within : (r : Register) (code : List ℕ) → IsSoundRegister r → IfSome (hand_of r code) IsHand
-hand_within r code sound = go (was_delivered r code)
-  where
-    within : IsHand (pieces r code)
-    within = let stocked = sound.stock code in let bounded = stocked.bounded in (omega arith, omega arith)
-
-    go : (b : Bool) → IfSome (cond b (Some (pieces r code)) None) IsHand
-    go true = within
-    go false = tt
+hand_within r code sound =
+    let stocked = sound.stock code in
+    let within : IsHand (pieces r code) = let bounded = stocked.bounded in (omega arith, omega arith) in
+    elim (was_delivered r code) as (λ b. IfSome (cond b (Some (pieces r code)) None) IsHand) [ true ↦ within | false ↦ tt ]
 
 -- what a sound register has at a place names its key, and is within its limits
 pub sound_at : (r : Register) → IsSoundRegister r → (place : Place)
@@ -59,6 +51,17 @@ sound_at r sound (Delivery code n) = IfSome_then (get r.deliveries (code, n)) (s
     (λ x at. ((λ i. delivery_key (at.part i) (at.number i)), at.within))
 
 -- ---- what is read
+
+-- this is what the tables have under the command's keys
+abbrev pub ReadsKeys : Content → (command : RecordCommand) → Standing command → Type 0
+ReadsKeys tables (Inspect id asked) there = ReadsAt tables (Inspection id asked.number) there
+ReadsKeys tables (OpenOrder id asked) there = ReadsAt tables (Order id asked.number) there
+ReadsKeys tables (UsePart id asked) (there, order, hand) =
+    ReadsAt tables (Line id asked.order asked.line) there
+    × ReadsAt tables (Order id asked.order) order × ReadsAt tables (Part asked.part) hand
+ReadsKeys tables (CloseOrder id number asked) there = ReadsAt tables (Order id number) there
+ReadsKeys tables (Receive asked) (there, hand) =
+    ReadsAt tables (Delivery asked.part asked.number) there × ReadsAt tables (Part asked.part) hand
 
 module _ (tables : Content) (r : Register) (stands : RegisterStandsSound tables r) where
   pub register_reads : (place : Place) → ReadsAt tables place (held_in r place)

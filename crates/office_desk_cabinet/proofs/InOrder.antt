@@ -1,10 +1,9 @@
 -- Rows that were listed are in order.
 use Rattle.std.proofs.Common.{◌≡◌, ℕ, zero, suc, ◌+◌, ◌*◌, ◌<◌, ◌≤◌, List, [], ◌∷◌, map, length, get_or, Ordering, Less, Equal, Greater, T, ap, sym, subst, ◌∙◌, arith, refl}
-use Rattle.std.proofs.lemmas.Cmp.{nat_cmp_total, ranked}
-use Rattle.std.specs.{Cmp.tied_itself, FinMap.entries, FinMap.entries_sorted, List.AllByRecursion, List.Sorted.IsNonDecreasingBy, FinMap.Entries.is_sorted, FinMap.Entries.below_all, FinMap.Entries.is_sorted-where_key, Ordering.nat_cmp, Ordering.ordering_then}
-use Rattle.cabinet_core.specs.Places.{inspection_place, order_place, line_place}
-use Rattle.cabinet_core.specs.Within.{IsInspectionWithin, IsOrderWithin, IsUsedLineWithin}
-use Rattle.cabinet_core.specs.declared.{record.Inspection.Inspection, record.Order.Order, record.UsedLine.UsedLine}
+use native.Mathlib.Numerals.{unary_clauses}
+use Rattle.std.proofs.lemmas.{Cmp.nat_cmp_total, Cmp.ranked, List.Sorted.IsNonDecreasingBy-from_all_adjacent}
+use Rattle.std.specs.{Cmp.tied_itself, FinMap.entries, FinMap.entries_sorted, List.AllAdjacentBelow, List.AllByRecursion, List.Sorted.IsNonDecreasingBy, FinMap.Entries.is_sorted, FinMap.Entries.is_sorted-where_key, Ordering.nat_cmp, Ordering.ordering_then}
+use Rattle.cabinet_core.specs.{Places.inspection_place, Places.order_place, Places.line_place, Within.IsInspectionWithin, Within.IsOrderWithin, Within.IsUsedLineWithin, declared.record.Inspection.Inspection, declared.record.Order.Order, declared.record.UsedLine.UsedLine}
 use Rattle.office_tables_shelf.proofs.{KeyCells.record_order, KeyCells.line_order, ListLemmas.entry, ListLemmas.less, ListLemmas.parts}
 use Rattle.office_tables_shelf.specs.CabinetRows.{inspection_columns, inspection_key, order_columns, order_key, used_columns, used_key}
 use Rattle.office_tables_shelf.specs.{CabinetReads.ListsInspections, CabinetReads.ListsOrders, CabinetReads.ListsUsed, Content.Content, Cells.Cell, Cells.TableRows, Cells.cells_cmp, Shelf.is_of, Shelf.rows_of}
@@ -12,31 +11,22 @@ use Rattle.office_tables_shelf.specs.{CabinetReads.ListsInspections, CabinetRead
 module _ {X : Type 0} (key columns : X → List Cell) (Within : X → Type 0) (place : X → ℕ)
     (rises : (x y : X) → Within x → Within y → cells_cmp (key x) (key y) ≡ Less
     → place x ≤ place y) where
-  above : (x : X) → Within x → (ys : List X) → AllByRecursion Within ys
-      → T (below_all cells_cmp (key x) (map (entry key columns) ys)) → (j : ℕ) (d : X)
-      → j < length ys → place x ≤ place (get_or ys j d)
-  above x one [] each below j d low = absurd (omega arith)
-  above x one (y ∷ ys) each below zero d low =
-      rises x y one each.0 (less _ (parts _ _ below).0)
-  above x one (y ∷ ys) each below (suc j) d low =
-      above x one ys each.1 (parts _ _ below).1 j d (omega arith)
-
-  rising : (xs : List X) → AllByRecursion Within xs
-      → T (is_sorted cells_cmp (map (entry key columns) xs)) → IsNonDecreasingBy place xs
-  rising [] each sorted i j d le low = absurd (omega arith)
-  rising (x ∷ xs) each sorted zero zero d le low = omega arith
-  rising (x ∷ xs) each sorted zero (suc j) d le low =
-      above x each.0 xs each.1 (parts _ _ sorted).0 j d (omega arith)
-  rising (x ∷ xs) each sorted (suc i) zero d le low = absurd (omega arith)
-  rising (x ∷ xs) each sorted (suc i) (suc j) d le low =
-      rising xs each.1 (parts _ _ sorted).1 i j d (omega arith) (omega arith)
+  adjacent : (xs : List X) → AllByRecursion Within xs
+      → T (is_sorted cells_cmp (map (entry key columns) xs))
+      → AllAdjacentBelow (λ x y. place x ≤ place y) xs (length xs)
+  adjacent [] each sorted k d low = absurd (omega arith)
+  adjacent (x ∷ []) each sorted k d low = absurd (omega arith)
+  adjacent (x ∷ y ∷ xs) each sorted zero d low =
+      rises x y each.0 each.1.0 (less _ (parts _ _ (parts _ _ sorted).0).0)
+  adjacent (x ∷ y ∷ xs) each sorted (suc k) d low =
+      simp unary_clauses (simp unary_clauses at (adjacent (y ∷ xs) each.1 (parts _ _ sorted).1 k d (omega arith)))
 
   listed_in_order : (rows : TableRows) (id : ℕ) (xs : List X)
       → map (entry key columns) xs ≡ rows_of id rows → AllByRecursion Within xs
       → IsNonDecreasingBy place xs
   listed_in_order rows id xs lists each =
-      rising xs each (subst (λ es. T (is_sorted cells_cmp es)) (sym lists)
-      (is_sorted-where_key cells_cmp (is_of id) (entries rows) (entries_sorted rows)))
+      IsNonDecreasingBy-from_all_adjacent place xs (adjacent xs each (subst (λ es. T (is_sorted cells_cmp es)) (sym lists)
+      (is_sorted-where_key cells_cmp (is_of id) (entries rows) (entries_sorted rows))))
 
 -- of keys of one intersection the rest decides
 rest_decides : (id : ℕ) (rest : Ordering) → ordering_then (nat_cmp id id) rest ≡ Less → rest ≡ Less

@@ -1,15 +1,10 @@
-pub mod Told
-pub mod Tells
+pub mod Places
 pub mod Found
 pub mod Changed
-pub mod KeyTies
 pub mod PendingLemmas
+pub mod Decided
 pub mod Undamaged
-pub mod Places
-pub mod Lines
 pub mod ListedRecords
 pub mod InOrder
 pub mod ShowingLemmas
 pub mod EmptyRegister
-pub mod News
-pub mod Decided

@@ -1,21 +1,17 @@
 -- A list that was read from tables that stand for a sound register is that of the register.
-use Rattle.std.proofs.Common.{◌≡◌, ℕ, pos, true, false, ◌==◌, List, [], ◌∷◌, map, filter, cond, Ordering, refl, sym, ap, ◌∙◌, map-id}
-use Rattle.std.proofs.lemmas.Cmp.{nat_list_cmp_total}
+use Rattle.std.proofs.Common.{◌≡◌, ℕ, pos, inl, inr, ◌==◌, List, [], ◌∷◌, map, filter, Ordering, refl, sym, ap, ◌∙◌, map-id}
+use Rattle.std.proofs.lemmas.{Bool.cases_Bool, Cmp.nat_list_cmp_total}
 use Rattle.std.specs.{Cmp.IsTotalOrder, FinMap.FinMap, FinMap.entries, FinMap.get, FinMap.Entries.where_key, Prelude.IfSome}
-use Rattle.cabinet_core.specs.{Register.Register, Register.records_at, Sound.IsInspectionAt, Sound.IsOrderAt, Sound.IsLineAt}
-use Rattle.cabinet_core.specs.Orders.{is_open}
-use Rattle.cabinet_core.specs.Stock.{stock_by_code, stock_of}
-use Rattle.cabinet_core.specs.declared.{record.Inspection.Inspection, record.Order.Order, record.UsedLine.UsedLine}
+use Rattle.cabinet_core.specs.{Register.Register, Register.records_at, Sound.IsInspectionAt, Sound.IsOrderAt, Sound.IsLineAt, Orders.is_open, Stock.stock_by_code, Stock.stock_of, declared.record.Inspection.Inspection, declared.record.Order.Order, declared.record.UsedLine.UsedLine}
 use Rattle.cabinet_core.proofs.{EntryLemmas.entries_stand, EntryLemmas.kept, KeyOrders.record_total, KeyOrders.line_total}
 use Rattle.office_tables_shelf.specs.CabinetReads.{ListsInspections, ListsOrders, ListsUsed, ListsParts}
 use Rattle.office_tables_shelf.specs.CabinetRows.{inspection_key, inspection_columns, order_key, order_columns, used_key, used_columns, part_key, part_columns}
 use Rattle.office_tables_shelf.specs.Cells.{Cell, TableRows, number, cells_cmp, tree_rows}
-use Rattle.office_tables_shelf.specs.{Content.Content, OpenOrders.ReadsOpen, Shelf.is_of, Shelf.rows_of}
-use Rattle.office_tables_shelf.proofs.{CabinetLemmas.of_number, CabinetLemmas.part_order, KeyCells.record_order, KeyCells.line_order}
-use Rattle.office_tables_shelf.proofs.StoredMaps.{stored_entries}
+use Rattle.office_tables_shelf.specs.{Content.Content, OpenOrders.ReadsOpen, Shelf.is_of, Shelf.rows_of, Places.Inspection as at_inspection, Places.Order as at_order, Places.Line as at_line}
+use Rattle.office_tables_shelf.proofs.{CabinetLemmas.of_number, CabinetLemmas.part_order, KeyCells.record_order, KeyCells.line_order, StoredMaps.stored_entries}
 use Rattle.office_tables_decisions.proofs.RowsTell.{told_by_rows, rows_tell}
 use Rattle.office_desk_cabinet.specs.RegisterStands.{inspection_cells, order_cells, line_cells, RegisterStands, RegisterStandsSound}
-use Rattle.office_desk_cabinet.proofs.Tells.{inspections_tell, orders_tell, lines_tell}
+use Rattle.office_desk_cabinet.proofs.Places.{tell_at}
 
 -- ---- the records of an intersection
 
@@ -26,12 +22,10 @@ module _ {K X : Type 0} {R : ℕ × K → ℕ × K → Ordering} (total : IsTota
 
   where_shown : (id : ℕ) (es : List ((ℕ × K) × X)) → where_key cells_cmp (is_of id) (map shown es) ≡ map shown (where_key R (λ k. k.0 == id) es)
   where_shown id [] = refl
-  where_shown id (e ∷ es) =
-      ap (λ b. cond b (shown e ∷ where_key cells_cmp (is_of id) (map shown es)) (where_key cells_cmp (is_of id) (map shown es))) (begins id e.0)
-      ∙ elim (e.0.0 == id) as (λ b. cond b (shown e ∷ where_key cells_cmp (is_of id) (map shown es)) (where_key cells_cmp (is_of id) (map shown es)) ≡ map shown (cond b (e ∷ where_key R (λ k. k.0 == id) es) (where_key R (λ k. k.0 == id) es))) [
-        | true ↦ ap (λ rows. shown e ∷ rows) (where_shown id es)
-        | false ↦ where_shown id es
-      ]
+  where_shown id (e ∷ es) = elim (cases_Bool (e.0.0 == id)) [
+    | inl hit ↦ rw (begins id e.0, hit) (ap (λ rows. shown e ∷ rows) (where_shown id es))
+    | inr miss ↦ rw (begins id e.0, miss) (where_shown id es)
+  ]
 
   -- the list of the rows of an intersection is that of its records, if a key and columns tell a record
   listed_records : (At : ℕ × K → X → Type 0) (id : ℕ) (own : X → List Cell)
@@ -49,13 +43,13 @@ module _ {K X : Type 0} {R : ℕ × K → ℕ × K → Ordering} (total : IsTota
 pub inspections_listed : (tables : Content) (r : Register) (id : ℕ) (found : List Inspection) → RegisterStandsSound tables r → ListsInspections tables id found → found ≡ records_at id r.inspections
 inspections_listed tables r id found stands lists =
     listed_records record_total inspection_cells inspection_columns record_order (λ of k. of_number of k.0 (number (pos k.1) ∷ [])) IsInspectionAt id (λ x. inspection_key id x.number)
-    (λ x e at keys same. let alike : x.number ≡ e.0.1 = cc in inspections_tell x e.1 (alike ∙ sym at.number) same)
+    (λ x e at keys same. let alike : x.number ≡ e.0.1 = cc in tell_at (at_inspection id 0) x e.1 (ap (inspection_key id) (alike ∙ sym at.number)) same)
     tables.inspection r.inspections stands.stand.inspection stands.sound.inspections found lists
 
 pub orders_listed : (tables : Content) (r : Register) (id : ℕ) (found : List Order) → RegisterStandsSound tables r → ListsOrders tables id found → found ≡ records_at id r.orders
 orders_listed tables r id found stands lists =
     listed_records record_total order_cells order_columns record_order (λ of k. of_number of k.0 (number (pos k.1) ∷ [])) IsOrderAt id (λ x. order_key id x.number)
-    (λ x e at keys same. let alike : x.number ≡ e.0.1 = cc in orders_tell x e.1 (alike ∙ sym at.number) same)
+    (λ x e at keys same. let alike : x.number ≡ e.0.1 = cc in tell_at (at_order id 0) x e.1 (ap (order_key id) (alike ∙ sym at.number)) same)
     tables.work_order r.orders stands.stand.work_order stands.sound.orders found lists
 
 -- and the open ones of them
@@ -69,7 +63,7 @@ open_read tables r id found stands reads =
 pub lines_listed : (tables : Content) (r : Register) (id : ℕ) (found : List UsedLine) → RegisterStandsSound tables r → ListsUsed tables id found → found ≡ records_at id r.lines
 lines_listed tables r id found stands lists =
     listed_records line_total line_cells used_columns line_order (λ of k. of_number of k.0 (number (pos k.1.0) ∷ number (pos k.1.1) ∷ [])) (IsLineAt r) id (λ x. used_key id x.order x.line)
-    (λ x e at keys same. let order : x.order ≡ e.0.1.0 = cc in let line : x.line ≡ e.0.1.1 = cc in lines_tell x e.1 (order ∙ sym at.of) (line ∙ sym at.number) same)
+    (λ x e at keys same. let order : x.order ≡ e.0.1.0 = cc in let line : x.line ≡ e.0.1.1 = cc in tell_at (at_line id 0 0) x e.1 (λ i. used_key id ((order ∙ sym at.of) i) ((line ∙ sym at.number) i)) same)
     tables.used_part r.lines stands.stand.used_part stands.sound.lines found lists
 
 -- ---- the stock

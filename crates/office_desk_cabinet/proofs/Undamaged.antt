@@ -2,10 +2,7 @@
 use Rattle.std.proofs.Common.{◌≡◌, ℕ, true, [], ◌∷◌, Option, Some, pos, sym, ap, subst, ◌∙◌, ⊎_elim}
 use Rattle.std.proofs.lemmas.{Cmp.nat_list_cmp_total, Option.IfSome_then}
 use Rattle.std.specs.{FinMap.get, Option.IfSome}
-use Rattle.cabinet_core.specs.Sound.{IsInspectionAt, IsOrderAt, IsLineAt}
-use Rattle.cabinet_core.specs.Stock.{hand_of, stock_by_code}
-use Rattle.cabinet_core.specs.{Register.Register, declared.record.Order.Order as OrderRecord}
-use Rattle.cabinet_core.specs.declared.{command.RecordCommand.RecordCommand, record.Inspection.Inspection as InspectionRecord, record.UsedLine.UsedLine}
+use Rattle.cabinet_core.specs.{Sound.IsInspectionAt, Sound.IsOrderAt, Sound.IsLineAt, Stock.hand_of, Stock.stock_by_code, Register.Register, declared.record.Order.Order as OrderRecord, declared.command.RecordCommand.RecordCommand, declared.record.Inspection.Inspection as InspectionRecord, declared.record.UsedLine.UsedLine}
 use Rattle.cabinet_core.proofs.{KeyOrders.record_total, KeyOrders.line_total, StockList.code_on_hand, StockList.stock_has}
 use Rattle.office_tables_shelf.proofs.{CabinetLemmas.part_order, KeyCells.record_order, KeyCells.line_order, StoredMaps.stored_found}
 use Rattle.office_tables_shelf.specs.CabinetReads.{HasAnyDamagedInspection, HasDamagedInspection, HasDamagedOrder, HasDamagedUsed, HasDamagedPart, IsHand}
@@ -17,8 +14,7 @@ use Rattle.cabinet_core.specs.declared.command.RecordCommand.TheVariants.{Inspec
 use Rattle.office_tables_decisions.specs.Damage.{MeetsRecordDamage}
 use Rattle.office_tables_shelf.specs.Places.{DamagedAt, Place, Inspection, Order, Line, Part, Delivery}
 use Rattle.office_desk_cabinet.specs.Registers.{held_in}
-use Rattle.office_desk_cabinet.proofs.Places.{whole_at}
-use Rattle.office_desk_cabinet.proofs.Found.{hand_within, register_reads, sound_at}
+use Rattle.office_desk_cabinet.proofs.{Places.whole_at, Found.hand_within, Found.register_reads, Found.sound_at}
 
 -- ---- rows of an intersection
 

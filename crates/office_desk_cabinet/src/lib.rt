@@ -3,15 +3,9 @@
 
 mod deciding;
 mod pending;
-mod registered;
 mod rows;
 mod showing;
-mod standing;
-mod stocking;
 
-pub use deciding::decide_record;
-pub use pending::Pending;
-pub use registered::Registered;
-pub use showing::{cabinet_view, open_orders};
-pub use standing::record_at;
-pub use stocking::stock;
+pub use deciding::{Taken, decide_record};
+pub use pending::{Pending, record_at};
+pub use showing::{cabinet_view, open_orders, stock};

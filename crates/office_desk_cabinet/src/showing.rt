@@ -1,15 +1,11 @@
-//! Queries of the register: the records of a cabinet, and its open orders.
+//! Queries of the register: the records of a cabinet, its open orders, and the stock.
 ghost use Rattle.std.specs.Prelude.{◌≡◌, IfOk, filter, map, ⊤};
-ghost use Rattle.cabinet_core.specs.Orders.{is_open, open_at};
-ghost use Rattle.cabinet_core.specs.Register.{Register};
-ghost use Rattle.cabinet_core.specs.declared.record.Order.{Order};
-ghost use Rattle.office_tables_shelf.specs.CabinetReads.{HasDamagedOrder};
-ghost use Rattle.office_tables_decisions.specs.Reads.{OnlyReads, Reports};
-ghost use Rattle.office_tables_decisions.specs.Damage.{HasDamagedCabinet};
-ghost use Rattle.office_desk_cabinet.specs.RegisterStands.{RegisterStandsSound};
-ghost use Rattle.office_desk_cabinet.specs.Registers.{ShowsCabinet};
+ghost use Rattle.cabinet_core.specs.{Orders.is_open, Orders.open_at, Register.Register, Stock.stock_of, declared.record.Order.Order};
+ghost use Rattle.office_tables_shelf.specs.CabinetReads.{HasDamagedOrder, HasDamagedPart};
+ghost use Rattle.office_tables_decisions.specs.{Reads.OnlyReads, Reads.Reports, Damage.HasDamagedCabinet};
+ghost use Rattle.office_desk_cabinet.specs.{RegisterStands.RegisterStandsSound, Registers.ShowsCabinet};
 
-use cabinet_core::{CabinetView, Order, Ordered};
+use cabinet_core::{CabinetView, Hand, Order, Ordered, PartCode};
 use office_tables_shelf::shelf::{Shelf, ShelfFault};
 use signal_records::{InterId, NoMemory, RecordNo};
 use std::alloc::Global;
@@ -67,4 +63,17 @@ pub fn open_orders<S: Shelf>(
     let orders = shelf.orders(alloc, id)?;
     let numbers = open_numbers(alloc, orders.as_slice())?;
     Ok(numbers)
+}
+
+/// The parts that were ever delivered, with how many are on hand of each, in the order of their
+/// codes.
+pub fn stock<S: Shelf>(shelf: &mut S, alloc: Global) -> Result<Vec<(PartCode, Hand)>, ShelfFault>
+    ensures shows { Reports (S.is_honest shelf.new) result
+        (λ parts. (r : Register) →
+        RegisterStandsSound (S.content shelf.old) r → parts.items ≡ stock_of r)
+        (HasDamagedPart (S.content shelf.old)) }
+    ensures reads { OnlyReads S.Shelf ⊤ result shelf.old shelf.new }
+{
+    let parts = shelf.parts(alloc)?;
+    Ok(parts)
 }

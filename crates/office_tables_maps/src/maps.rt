@@ -1,7 +1,7 @@
 //! The eight tables in memory, as maps of records.
 ghost use Rattle.std.specs.Prelude.{◌≡◌, ℕ, OnOk, IfOk, IfSome};
 
-use crate::kept::{copied_rows, find, put, remove};
+use crate::kept::{copied_rows, find, list_all, put, remove};
 use crate::under::drop_under;
 use cabinet_core::{Day, Delivery, Hand, Inspection, Order, PartCode, UsedLine};
 use office_tables_shelf::open_orders::add_open;
@@ -49,7 +49,7 @@ fn at<P>(place: P) -> P
 }
 
 impl Maps {
-    ghost use Rattle.office_tables_shelf.specs.{CabinetReads.HasAnyDamagedInspection, CabinetReads.HasAnyDamagedOrder, OpenOrders.orders_in, OpenOrders.ReadsOpen, Overdue.last_day_in, Overdue.ReadsLast, Places.FindsAt, Places.IsOfPlace, Places.place_of, Content.no_content, Change.changed, Change.changed_by};
+    ghost use Rattle.office_tables_shelf.specs.{CabinetReads.ListsParts, CabinetReads.HasAnyDamagedInspection, CabinetReads.HasAnyDamagedOrder, OpenOrders.orders_in, OpenOrders.ReadsOpen, Overdue.last_day_in, Overdue.ReadsLast, Places.FindsAt, Places.IsOfPlace, Places.place_of, Content.no_content, Change.changed, Change.changed_by};
 
     /// Tables without a row.
     pub fn new(alloc: Global) -> Maps
@@ -185,5 +185,13 @@ impl Maps {
                 Ok(found.map(RegisterRecord::Delivery))
             }
         }
+    }
+
+    /// The parts, in the order of their codes, with how many are on hand of each. `NoMemory` means
+    /// that a growth was really refused.
+    pub fn parts(&self, alloc: Global) -> Result<Vec<(PartCode, Hand)>, NoMemory>
+        ensures { IfOk result (λ parts. ListsParts self.now parts.items) }
+    {
+        list_all(alloc, &self.part)
     }
 }

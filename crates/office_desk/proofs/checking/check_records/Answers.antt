@@ -2,10 +2,9 @@ use Rattle.std.proofs.Common.{◌≡◌, ◌+◌, arith, refl, subst, subst₂, 
 use Rattle.office_desk.specs.{Checking.ChecksRecord, Damage.MeetsCabinetDamage, Recording.AreFound}
 use Rattle.office_machine.specs.Step.{cabinet_of}
 use Rattle.office_tables_shelf.specs.Content.{Content}
-use Rattle.office_desk.proofs.TriedRecords.{CheckedSoFar, checked_more, none_checked}
+use Rattle.office_desk.proofs.{TriedRecords.CheckedSoFar, TriedRecords.checked_more, TriedRecords.none_checked, FoundAgain.none_found}
 use Rattle.office_tables_decisions.proofs.ReadLemmas.{handed_reports, handed_told, unread}
 use Rattle.office_desk.proofs.Imports.{damage_of_record, is_next, some_read, taken_reads}
-use Rattle.office_desk.proofs.FoundAgain.{none_found}
 use Rattle.office_desk.proofs.checking.check_records.Goals as goal
 
 pub loop-command-init : goal.loop-command-init
@@ -25,25 +24,24 @@ check_record-requires g c = λ honest.
 
 pub loop-command-preserved : goal.loop-command-preserved
 loop-command-preserved g c =
-    let shelf = g.S.Shelf in
     let all = c.args.records.now in
     let index = c.loop-command.command-index in
     let item = c.command-item.result in
     let inv = c.loop-command.invariant in
+    let before = c.loop-command.pending in
     let came = c.in_ok-one.ensures in
     let next = is_next index item refl c.loop-command-test.true c.command-item.is in
     record {
       so_far = λ honest.
           let first = c.check_record.ensures.reads.kept.honest_before honest in
-          checked_more (shelf.content c.args.shelf.now) all index c.loop-command.pending c.in_ok-one.next c.loop-command.checked.items _ item c.in_ok-one.one
-          (inv.so_far first) next
-          (subst (λ tables. ChecksRecord tables c.loop-command.pending item c.in_ok-one.one c.in_ok-one.next) (inv.reads.kept.same_content first) (came.checks honest))
-          c.in_ok-keep.ensures;
+          subst (λ p. CheckedSoFar (g.S.Shelf.content c.args.shelf.now) all (index + 1) p c.keep.new.checked.items) (sym c.in_ok-pending.ensures)
+          (checked_more (g.S.Shelf.content c.args.shelf.now) all index before c.in_ok-one.rows.items c.loop-command.checked.items _ item c.in_ok-one.one (inv.so_far first) next
+          (subst (λ tables. ChecksRecord tables before item c.in_ok-one.one c.in_ok-one.rows.items) (inv.reads.kept.same_content first) (came.checks honest)) c.in_ok-keep.ensures);
       found = λ honest.
           let first = c.check_record.ensures.reads.kept.honest_before honest in
           subst (λ tables. AreFound tables c.check_record.new.found) (inv.reads.kept.same_content first) (came.found honest);
       fresh = λ start. absurd (let e : index + 1 ≡ 0 = start in let never : ⊥ = omega (arith, e) in never);
-      reads = taken_reads shelf _ c.loop-command.pending index _ _ _ _ _ inv.fresh inv.reads came.reads (λ told. tt);
+      reads = taken_reads g.S.Shelf _ before index _ _ _ _ _ inv.fresh inv.reads came.reads (λ told. tt);
     }
 
 pub returns-in_err-one-clause-checks : goal.returns-in_err-one-clause-checks

@@ -1,27 +1,25 @@
-use Rattle.std.proofs.Common.{◌≡◌, ◌+◌, ◌≤◌, ◌∙◌, List, length, inl, inr, ap, sym, refl, subst, arith}
+use Rattle.std.proofs.Common.{◌≡◌, ◌+◌, ◌≤◌, ◌∙◌, List, [], ◌∷◌, drop, length, inl, inr, ap, sym, refl, subst, arith}
 use Rattle.cabinet_core.specs.declared.command.RecordCommand.{RecordCommand}
-use Rattle.office_tables_decisions.proofs.ReadLemmas.{handed_told, unread}
-use Rattle.office_desk.specs.{Damage.MeetsCabinetDamage, Recording.AreFound, Taking.LeavesAnyTiming, Taking.TakesInTurn}
+use Rattle.office_tables_shelf.specs.Counts.{writes_in}
+use Rattle.office_tables_decisions.proofs.{ReadLemmas.handed_told, ReadLemmas.unread, Decisions.handed_decides, Decisions.refuses_so, Decisions.told_decides}
+use Rattle.office_desk.specs.{Changes.most_import_writes, Damage.MeetsCabinetDamage, Recording.AreFound, Taking.TakesNext}
 use Rattle.office_machine.specs.{Step.cabinet_of, declared.reply.Reply.TheVariants.Imported}
-use Rattle.office_desk.proofs.Imports.{SoFar, WentOn, counted_on, damage_of_record, import_decides, is_next, none_next, nothing_written, nothing_yet, one_more, refused_all, refused_decides, some_read, taken_reads, writes_left, writes_whole}
-use Rattle.office_desk.proofs.Recorded.{nothing_leaves}
-use Rattle.office_desk.proofs.FoundAgain.{none_found}
-use Rattle.office_tables_decisions.proofs.Decisions.{handed_decides}
-use Rattle.office_desk.proofs.importing.decide_import.Goals.{in-Added, in-Same}
+use Rattle.office_desk.proofs.Imports.{SoFar, WentOn, counted_on, damage_of_record, import_decides, is_next, none_next, none_taken, nothing_yet, one_more, refused_all, some_read, taken_reads, writes_left}
+use Rattle.office_desk.proofs.{FoundAgain.none_found, importing.decide_import.Goals.in-Added, importing.decide_import.Goals.in-Same}
 use Rattle.office_desk.proofs.importing.decide_import.Goals as goal
 
 pub loop-index-init : goal.loop-index-init
 loop-index-init g c =
     let stored = g.S.Shelf.content c.args.shelf.now in
+    let all = c.args.records.now in
     let none = c.new-pending.ensures in
     record {
       counted = refl;
-      so_far = λ honest. subst (SoFar stored c.args.records.now 0 0 0) (sym none) (nothing_yet stored c.args.records.now);
+      so_far = λ honest. subst (SoFar stored all 0 0 0) (sym none) (nothing_yet stored all);
       found = λ honest. none_found stored c.new-found.result c.new-found.ensures.empty;
       fresh = λ start. none;
       reads = unread _ _ _ _ (λ later told. absurd (later refl));
-      leaves = subst LeavesAnyTiming (sym none) nothing_leaves;
-      writes = λ table. nothing_written table c.new-pending.result c.args.records.now none;
+      writes = λ table. let zero_writes = ap (writes_in table) none in omega (arith, zero_writes);
     }
 
 pub take_record-requires : goal.take_record-requires
@@ -37,30 +35,31 @@ overflow_add-added g c =
 
 pub loop-index-preserved : goal.loop-index-preserved
 loop-index-preserved g c =
-    let shelf = g.S.Shelf in
     let all = c.args.records.now in
     let index = c.loop-index.index in
     let item = c.command-item.result in
+    let inv = c.loop-index.invariant in
     let before = c.loop-index.pending in
     let t = c.in_ok-taken.taken in
+    let rows = c.in_ok-taken.rows.items in
     let told = c.in_ok-taken.ensures in
+    let list = c.in_ok-pending.ensures in
     let next = is_next index item c.as_slice-command-items.ensures c.loop-index-test.true c.command-item.is in
     let came : WentOn t c.loop-index.added c.loop-index.same c.match-taken.added c.match-taken.same =
     elim c.match-taken.branch [ in-Added w ↦ inl (w.in-Added.is, w.added-is, w.same-is) | in-Same w ↦ inr (w.in-Same.is, w.added-is, w.same-is) ] in
     record {
-      counted = counted_on c.loop-index.added c.loop-index.same index _ _ t c.loop-index.invariant.counted came;
+      counted = counted_on c.loop-index.added c.loop-index.same index _ _ t inv.counted came;
       so_far = λ honest.
           let first = c.take_record.ensures.reads.kept.honest_before honest in
-          one_more _ all index c.loop-index.added c.loop-index.same before c.in_ok-taken.next item t (c.loop-index.invariant.so_far first) next
-          (subst (λ tables. TakesInTurn tables before item t c.in_ok-taken.next) (c.loop-index.invariant.reads.kept.same_content first) (told.takes honest)) _ _ came;
+          subst (SoFar _ all (index + 1) _ _) (sym list) (one_more _ all index c.loop-index.added c.loop-index.same before rows item t (inv.so_far first) next
+          (subst (λ tables. TakesNext tables before item t rows) (inv.reads.kept.same_content first) (told.takes honest)) _ _ came);
       found = λ honest.
           let first = c.take_record.ensures.reads.kept.honest_before honest in
-          subst (λ tables. AreFound tables c.take_record.new.found) (c.loop-index.invariant.reads.kept.same_content first)
-          (told.found honest);
+          subst (λ tables. AreFound tables c.take_record.new.found) (inv.reads.kept.same_content first) (told.found honest);
       fresh = λ start. absurd (let e : index + 1 ≡ 0 = start in let never : ⊥ = omega (arith, e) in never);
-      reads = taken_reads shelf _ before index _ _ _ _ _ c.loop-index.invariant.fresh c.loop-index.invariant.reads told.reads (λ told. tt);
-      leaves = told.within.leaves c.loop-index.invariant.leaves;
-      writes = λ table. writes_left table all index item _ _ _ next (c.loop-index.invariant.writes table) (told.within.writes table);
+      reads = taken_reads g.S.Shelf _ before index _ _ _ _ _ inv.fresh inv.reads told.reads (λ told. tt);
+      writes = λ table. subst (λ p. writes_in table p + most_import_writes (drop (index + 1) all) table ≤ most_import_writes all table) (sym list)
+          (writes_left table all index item before rows _ next (inv.writes table) (told.within.writes table));
     }
 
 pub returns-in_err-taken : goal.returns-in_err-taken
@@ -81,21 +80,20 @@ returns-in_err-taken g c =
 
 pub returns-in-Refused : goal.returns-in-Refused
 returns-in-Refused g c =
-    let shelf = g.S.Shelf in
     let all = c.args.records.now in
     let item = c.command-item.result in
     let inv = c.loop-index.invariant in
+    let before = c.loop-index.pending in
     let next = is_next c.loop-index.index item c.as_slice-command-items.ensures c.loop-index-test.true c.command-item.is in
     let told = c.in_ok-taken.ensures in
-    let first = c.take_record.ensures.reads.kept.honest_before in
-    let takes = λ (honest : shelf.is_honest c.take_record.new.shelf).
-    subst (λ tables. TakesInTurn tables c.loop-index.pending item c.in_ok-taken.taken c.in_ok-taken.next) (inv.reads.kept.same_content (first honest)) (told.takes honest) in
     record {
-      decides = refused_decides _ _ all (c.loop-index.index + 1) _ _
-          (λ honest office stands. refused_all _ all c.loop-index.index c.loop-index.added c.loop-index.same c.loop-index.pending c.in_ok-taken.next item c.in_ok-taken.taken
-          (inv.so_far (first honest)) next (takes honest) c.in-Refused.refusal _ office c.in-Refused.is c.number-cause.ensures stands)
-          c.all_or_none.ensures.reply (c.all_or_none.ensures.none tt);
-      reads = taken_reads shelf _ c.loop-index.pending c.loop-index.index _ _ _ _ _ inv.fresh inv.reads told.reads (λ told. tt);
+      decides = told_decides _ _ _ _ _ c.from_refusal.ensures.reply (λ e. cc) (refuses_so (30 ∷ []) _ (inl refl)) c.from_refusal.ensures.no_changes
+          (λ honest office stands.
+          let first = c.take_record.ensures.reads.kept.honest_before honest in
+          refused_all _ all c.loop-index.index c.loop-index.added c.loop-index.same before c.in_ok-taken.rows.items item c.in_ok-taken.taken
+          (inv.so_far first) next (subst (λ tables. TakesNext tables before item c.in_ok-taken.taken c.in_ok-taken.rows.items) (inv.reads.kept.same_content first) (told.takes honest))
+          c.in-Refused.refusal _ office c.in-Refused.is c.number-cause.ensures stands);
+      reads = taken_reads g.S.Shelf _ before c.loop-index.index _ _ _ _ _ inv.fresh inv.reads told.reads (λ told. tt);
       nothing = λ none. absurd (none_next _ c.loop-index.index item next none);
     }
 
@@ -106,8 +104,7 @@ returns g c =
     let inv = c.loop-index.invariant in
     let high = subst (λ (list : List RecordCommand). length list ≤ index) c.as_slice-command-items.ensures c.loop-index-test.false in
     record {
-      decides = import_decides _ _ all index c.loop-index.added c.loop-index.same c.loop-index.pending _ high inv.so_far inv.leaves
-          (λ table. writes_whole table all index _ _ high (inv.writes table)) c.all_or_none-2.ensures.reply (c.all_or_none-2.ensures.all (λ refused. refused) ∙ c.into_changes-2.ensures);
+      decides = import_decides _ _ all index c.loop-index.added c.loop-index.same c.loop-index.pending _ high inv.so_far inv.writes c.in_ok-changes.ensures.comes refl;
       reads = record {
         kept = inv.reads.kept;
         clean_before = inv.reads.clean_before;
@@ -115,9 +112,13 @@ returns g c =
         read = λ some clean told. inv.reads.read (some_read all index high some) clean tt;
       };
       nothing = λ none.
-          let size : length all ≡ 0 = ap (λ (list : List RecordCommand). length list) none in
-          let start : index ≡ 0 = omega (arith, size, c.loop-index.auto.index-end, ap (λ (list : List RecordCommand). length list) c.as_slice-command-items.ensures) in
+          let start = none_taken all _ index c.as_slice-command-items.ensures c.loop-index.auto.index-end none in
           let none_added : c.loop-index.added ≡ 0 = omega (arith, inv.counted, start) in
           let none_same : c.loop-index.same ≡ 0 = omega (arith, inv.counted, start) in
-          (c.all_or_none-2.ensures.reply ∙ (λ k. Imported (none_added k) (none_same k)), c.all_or_none-2.ensures.all (λ refused. refused) ∙ c.into_changes-2.ensures ∙ inv.fresh start);
+          ((λ k. Imported (none_added k) (none_same k)), c.in_ok-changes.ensures.none (inv.fresh start));
     }
+
+pub returns-in_err-changes-clause-nothing : goal.returns-in_err-changes-clause-nothing
+returns-in_err-changes-clause-nothing g c = λ none.
+    let start = none_taken c.args.records.now _ c.loop-index.index c.as_slice-command-items.ensures c.loop-index.auto.index-end none in
+    absurd (c.in_err-changes.ensures.none (c.loop-index.invariant.fresh start))

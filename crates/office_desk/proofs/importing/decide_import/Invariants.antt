@@ -1,7 +1,7 @@
 use Rattle.std.proofs.Common.{◌≡◌, ◌≢◌, ◌+◌, ◌≤◌, [], drop}
 use Rattle.office_tables_shelf.specs.{Counts.writes_in, declared.rows.Table.Table}
 use Rattle.office_tables_decisions.proofs.ReadLemmas.{HasRead}
-use Rattle.office_desk.specs.{Changes.most_import_writes, Recording.AreFound, Taking.LeavesAnyTiming}
+use Rattle.office_desk.specs.{Changes.most_import_writes, Recording.AreFound}
 use Rattle.office_desk.proofs.Imports.{SoFar}
 use Rattle.office_desk.proofs.importing.decide_import.Given as goal
 
@@ -15,6 +15,5 @@ invariant-loop-index g l =
       found : shelf.is_honest l.shelf → AreFound (shelf.content l.fn.shelf) l.found;
       fresh : l.index ≡ 0 → l.pending ≡ [];
       reads : HasRead shelf (l.index ≢ 0) l.fn.shelf l.shelf;
-      leaves : LeavesAnyTiming l.pending;
       writes : (table : Table) → writes_in table l.pending + most_import_writes (drop l.index l.records) table ≤ most_import_writes l.records table;
     }

@@ -1,9 +1,7 @@
 use Rattle.std.proofs.Common.{◌∙◌, Err, ap, inr, subst}
-use Rattle.office_tables_shelf.specs.CabinetReads.{HasDamagedUsed, ListsOrders, ListsUsed}
-use Rattle.office_tables_shelf.specs.declared.shelf.ShelfFault.{ShelfFault}
+use Rattle.office_tables_shelf.specs.{CabinetReads.HasDamagedUsed, CabinetReads.ListsOrders, CabinetReads.ListsUsed, declared.shelf.ShelfFault.ShelfFault}
 use Rattle.office_tables_decisions.proofs.ReadLemmas.{handed_reports}
-use Rattle.office_desk_cabinet.proofs.InOrder.{inspections_in_order, lines_in_order, orders_in_order}
-use Rattle.office_desk_cabinet.proofs.ListedRecords.{inspections_listed, orders_listed, lines_listed}
+use Rattle.office_desk_cabinet.proofs.{InOrder.inspections_in_order, InOrder.lines_in_order, InOrder.orders_in_order, ListedRecords.inspections_listed, ListedRecords.orders_listed, ListedRecords.lines_listed}
 use Rattle.office_desk_cabinet.proofs.showing.cabinet_view.Goals as goal
 
 pub returns-clause-shows : goal.returns-clause-shows
