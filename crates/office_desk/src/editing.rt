@@ -1,7 +1,7 @@
 //! A clerk's edit of a plan, run on an office.
 ghost use Rattle.office_desk.specs.Editing.{EditsPlan};
 
-use crate::deciding::shelf_refusal;
+use crate::deciding::or_refusal;
 use crate::office::Office;
 use office_desk_timing::{PlanEdit, decide_revision};
 use office_machine::reply::Reply;
@@ -26,9 +26,7 @@ impl<S: Shelf> Office<S> {
     ) -> Reply
         ensures { EditsPlan S.Shelf id clerk.now edit.now result self.old self.new }
     {
-        match decide_revision(&mut self.shelf, alloc, id, clerk, edit) {
-            Ok(decided) => self.make(alloc, decided),
-            Err(fault) => Reply::Refused(shelf_refusal(fault)),
-        }
+        let decided = decide_revision(&mut self.shelf, alloc, id, clerk, edit);
+        self.make(alloc, or_refusal(alloc, decided))
     }
 }
