@@ -1,8 +1,8 @@
 -- From what was decided by reads to what a command is answered.
-use Rattle.std.proofs.Common.{◌≡◌, ◌≢◌, ◌⊎◌, [], Result, Ok, Err, IsOkAnd, refl, ap, sym, ◌∙◌, inl, inr, arith}
+use Rattle.std.proofs.Common.{◌≡◌, ◌≢◌, ◌⊎◌, [], Result, Ok, Err, IsOkAnd, refl, ap, subst, sym, ◌∙◌, inl, inr, arith}
 use Rattle.std.specs.Prelude.{MatchResult}
 use Rattle.office_desk_timing.specs.Decisions.{refusal_of}
-use Rattle.office_desk.proofs.Looks.{looks_so, looks_weaker}
+use Rattle.office_desk.proofs.Looks.{looks_weaker}
 use Rattle.office_desk.specs.{Answers.AnswersAny, Asks.ReadsOffice, Damage.MeetsDamage, Named.IsNamedFor, Running.IsAnswered, Running.IsDecided}
 use Rattle.office_desk.specs.Deciding.{AddsNothing, Decides, DecidesIdly, IsDecision, IsIdle}
 use Rattle.office_desk.proofs.Undamaged.{damage_refuted}
@@ -10,7 +10,7 @@ use Rattle.office_machine.specs.{Office.Office, Step.Step, Step.answered}
 use Rattle.office_machine.specs.declared.{command.Command.Command, command.Command.TheVariants.Import, refusal.Refusal.Refusal, reply.Reply.Reply, reply.Reply.TheVariants.Imported, reply.Reply.TheVariants.Refused}
 use Rattle.office_machine.specs.declared.refusal.Refusal.TheVariants as refusal
 use Rattle.office_tables_decisions.specs.{Reads.OnlyReads, declared.decided.Decided.Decided}
-use Rattle.office_tables_shelf.specs.{Content.Content, Shelf.IsTold as IsRead, declared.shelf.Shelf.Ghosts, declared.shelf.ShelfFault.ShelfFault}
+use Rattle.office_tables_shelf.specs.{Content.Content, declared.shelf.Shelf.Ghosts, declared.shelf.ShelfFault.ShelfFault}
 use Rattle.office_tables_shelf.specs.declared.shelf.ShelfFault.TheVariants.{Damaged}
 
 -- ---- without a row to be written
@@ -78,40 +78,36 @@ asks_nothing _ = inr (λ e. cc)
 
 -- ---- on a database that is open, or was shut
 
--- a decision on the tables of an open database, or one that needs no table
-abbrev pub Stems : (is_honest : Type 0) → Content → (Decides : Content → Decided → Type 0) → (Idle : Decided → Type 0) → Decided → Type 0
-Stems is_honest tables Decides Idle decided = (is_honest × Decides tables decided) ⊎ (Idle decided × ((any : Content) → Decides any decided))
-
 -- what was decided, or the refusal of a fault
 abbrev pub IsTold : Result Decided ShelfFault → Decided → Type 0
 IsTold read given = MatchResult read (λ decided. given ≡ decided) (λ fault. (given.reply ≡ Refused (refusal_of fault)) × (given.changes.items ≡ []))
 
-idle_stems : (is_honest : Type 0) (tables : Content) (command : Command) (given : Decided) → IsIdle command given.reply → given.changes.items ≡ [] → Stems is_honest tables (λ any. IsAnswered any command) (DecidesIdly command) given
-idle_stems is_honest tables command given idle none = inr (record { idle = idle; no_changes = none }, idle_answered command given none idle)
+module _ {S : Type 0} (g : Ghosts S) {reads : Type 0} {read : Result Decided ShelfFault} {old new : S} (Decides : Content → Decided → Type 0) (Idle : Decided → Type 0) (given : Decided)
+    (it : OnlyReads g reads read old new) where
+  pub decided_open : (g.is_clean new → g.is_honest new) → (g.is_honest new → Decides (g.content old) given) → IsDecided g Decides Idle given old new
+  decided_open opened decides = record {
+    looks = record {
+      kept = it.kept;
+      clean = it.clean_before;
+      tells = λ clean tables held. let honest = opened clean in subst (λ t. Decides t given) (held (it.kept.honest_before honest)) (decides honest);
+    };
+    shut = λ clean. inl (opened clean);
+  }
 
-command_stems : (is_honest : Type 0) (tables : Content) (command : Command) (read : Result Decided ShelfFault) (given : Decided) → IsTold read given → Decides is_honest tables command read
-    → (command ≡ Import [] → IsOkAnd read AddsNothing) → (command ≢ Import [] → IsRead read → is_honest) → Stems is_honest tables (λ any. IsAnswered any command) (DecidesIdly command) given
-command_stems is_honest tables command (Ok decided) given is decides nothing reads = elim (asks_nothing command) [
-  | inl none ↦ let it = nothing none in idle_stems is_honest tables command given (inr (none, rw is it.0)) (rw is it.1)
-  | inr some ↦ let honest = reads some tt in inl (honest, rw is (decided_answered is_honest tables command decided honest decides))
-]
-command_stems is_honest tables command (Err Damaged) given is decides nothing reads =
-    let honest = reads nothing refl in
-    inl (honest, damaged_answered command given is.1 is.0 tables (decides refl honest))
-command_stems is_honest tables command (Err _) given is decides nothing reads = idle_stems is_honest tables command given (inl is.0) is.1
+  pub decided_idly : Idle given → ((tables : Content) → Decides tables given) → IsDecided g Decides Idle given old new
+  decided_idly idle decides = record { looks = record { kept = it.kept; clean = it.clean_before; tells = λ clean tables held. decides tables }; shut = λ clean. inr idle }
 
--- it is known of the tables that an open database held, and of any, if it was shut
-pub stems_look : {S : Type 0} (g : Ghosts S) {reads : Type 0} {read : Result Decided ShelfFault} {old new : S} (Decides : Content → Decided → Type 0) (Idle : Decided → Type 0) (given : Decided)
-    → OnlyReads g reads read old new → (g.is_clean new → Stems (g.is_honest new) (g.content old) Decides Idle given)
-    → IsDecided g Decides Idle given old new
-stems_look g Decides Idle given reads stems = record {
-  looks = looks_so reads.kept reads.clean_before (λ clean. elim (stems clean) [ inl here ↦ inl here | inr idle ↦ inr idle.1 ]);
-  shut = λ clean. elim (stems clean) [ inl here ↦ inl here.0 | inr idle ↦ inr idle.0 ];
-}
+idly_decided : {S : Type 0} (g : Ghosts S) {reads : Type 0} {read : Result Decided ShelfFault} {old new : S} (command : Command) (given : Decided) → OnlyReads g reads read old new
+    → IsIdle command given.reply → given.changes.items ≡ [] → IsDecided g (λ tables. IsAnswered tables command) (DecidesIdly command) given old new
+idly_decided g command given reads idle none = decided_idly g _ _ given reads (record { idle = idle; no_changes = none }) (idle_answered command given none idle)
 
--- a command that was decided
+-- a command that was decided, or a fault of the shelf as its refusal
 pub decided_look : {S : Type 0} (g : Ghosts S) (command : Command) (read : Result Decided ShelfFault) (given : Decided) (old new : S) → OnlyReads g (command ≢ Import []) read old new → IsTold read given
-    → Decides (g.is_honest new) (g.content old) command read → (command ≡ Import [] → IsOkAnd read AddsNothing)
-    → IsDecided g (λ tables. IsAnswered tables command) (DecidesIdly command) given old new
-decided_look g command read given old new reads is decides nothing =
-    stems_look g (λ tables. IsAnswered tables command) (DecidesIdly command) given reads (λ clean. command_stems (g.is_honest new) (g.content old) command read given is decides nothing (λ some. reads.read some clean))
+    → Decides (g.is_honest new) (g.content old) command read → (command ≡ Import [] → IsOkAnd read AddsNothing) → IsDecided g (λ tables. IsAnswered tables command) (DecidesIdly command) given old new
+decided_look g command (Ok decided) given old new reads is decides nothing = elim (asks_nothing command) [
+  | inl none ↦ let it = nothing none in idly_decided g command given reads (inr (none, rw is it.0)) (rw is it.1)
+  | inr some ↦ decided_open g _ _ given reads (λ clean. reads.read some clean tt) (λ honest. rw is (decided_answered _ _ command decided honest decides))
+]
+decided_look g command (Err Damaged) given old new reads is decides nothing =
+    decided_open g _ _ given reads (λ clean. reads.read nothing clean refl) (λ honest. damaged_answered command given is.1 is.0 (g.content old) (decides refl honest))
+decided_look g command (Err _) given old new reads is decides nothing = idly_decided g command given reads (inl is.0) is.1

@@ -3,14 +3,14 @@ use Rattle.std.proofs.Common.{◌≡◌, ◌⊎◌, List, [], ℕ, Result, Ok, E
 use Rattle.std.specs.Prelude.{⊤}
 use Rattle.draft_core.specs.declared.timing.Reach.TheVariants.{Plan}
 use Rattle.office_desk.specs.{Damage.HasDamageIn, Editing.AfterEdit, Editing.EditsPlan, Running.IsDecided, Running.MakesTables, Running.StopLeaves, Running.WasAnswered, Running.reply_made, Running.rows_made}
-use Rattle.office_desk.proofs.{Answering.IsTold, Answering.Stems, Answering.stems_look, Runs.done_makes, Runs.done_stops}
+use Rattle.office_desk.proofs.{Answering.IsTold, Answering.decided_idly, Answering.decided_open, Runs.done_makes, Runs.done_stops}
 use Rattle.office_desk_timing.specs.Revising.{AnswersAnyEdit, DecidesEdit, IsEditDecision}
 use Rattle.office_desk_timing.specs.declared.revising.PlanEdit.{PlanEdit}
 use Rattle.office_desk_timing.proofs.{Revisions.told, Stands.no_damage}
 use Rattle.office_machine.specs.declared.{reply.Reply.Reply, reply.Reply.TheVariants.Refused}
 use Rattle.office_machine.specs.declared.refusal.Refusal.TheVariants as refusal
 use Rattle.office_tables_decisions.specs.{Reads.OnlyReads, declared.decided.Decided.Decided}
-use Rattle.office_tables_shelf.specs.{Change.changed_by, Content.Content, Shelf.IsTold as IsRead, declared.rows.RowChange.RowChange, declared.shelf.Shelf.Ghosts, declared.shelf.ShelfFault.ShelfFault}
+use Rattle.office_tables_shelf.specs.{Change.changed_by, Content.Content, declared.rows.RowChange.RowChange, declared.shelf.Shelf.Ghosts, declared.shelf.ShelfFault.ShelfFault}
 use Rattle.office_tables_shelf.specs.declared.shelf.ShelfFault.TheVariants.{Damaged}
 
 module _ (id : ℕ) (clerk : List ℕ) (edit : PlanEdit) where
@@ -21,37 +21,27 @@ module _ (id : ℕ) (clerk : List ℕ) (edit : PlanEdit) where
   unavailable_edit : (tables : Content) → AnswersAnyEdit tables id clerk edit (Refused refusal.Unavailable) tables
   unavailable_edit tables office stands = record { next = office; step = inl (refl, refl); stand = stands }
 
-  -- what was decided of an open database, or a fault of the shelf as its refusal
-  edit_stems : (is_honest : Type 0) (tables : Content) (read : Result Decided ShelfFault) (given : Decided) → IsTold read given → DecidesEdit is_honest tables id clerk edit read
-      → (IsRead read → is_honest) → Stems is_honest tables Decides (λ decided. decided.reply ≡ Refused refusal.Unavailable) given
-  edit_stems is_honest tables (Ok decided) given is decides reads =
-      let honest = reads tt in
-      inl (honest, rw is (record {
-        step = λ _. decides.step honest;
-        writes = λ _. decides.writes honest;
-        news = λ _. decides.news honest;
-        made = decides.made;
-        refused = decides.refused;
-        damaged = λ told _. decides.damaged told honest;
-      }))
-  edit_stems is_honest tables (Err Damaged) given is decides reads =
-      let honest = reads refl in
-      inl (honest, rw (is.0, is.1) (record {
-        step = λ _ office stands. absurd (no_damage Plan tables id (decides refl honest) office stands);
-        writes = λ _ office stands. refl;
-        news = λ _. tt;
-        made = λ moved. absurd moved;
-        refused = λ refused. refl;
-        damaged = λ said _. decides refl honest;
-      }))
-  edit_stems is_honest tables (Err _) given is decides reads =
-      inr (is.0, λ any. rw (is.0, is.1) (told ⊤ any id clerk edit _ (λ side. refl) (λ moved. moved) (λ e. cc) (λ _. unavailable_edit any)))
-
+  -- an edit that was decided, or a fault of the shelf as its refusal
   pub edit_look : {S : Type 0} (g : Ghosts S) (read : Result Decided ShelfFault) (given : Decided) (old new : S) → OnlyReads g ⊤ read old new → IsTold read given
-      → DecidesEdit (g.is_honest new) (g.content old) id clerk edit read
-      → IsDecided g Decides (λ decided. decided.reply ≡ Refused refusal.Unavailable) given old new
-  edit_look g read given old new reads is decides =
-      stems_look g Decides (λ decided. decided.reply ≡ Refused refusal.Unavailable) given reads (λ clean. edit_stems (g.is_honest new) (g.content old) read given is decides (reads.read tt clean))
+      → DecidesEdit (g.is_honest new) (g.content old) id clerk edit read → IsDecided g Decides (λ decided. decided.reply ≡ Refused refusal.Unavailable) given old new
+  edit_look g (Ok decided) given old new reads is decides = decided_open g Decides _ given reads (λ clean. reads.read tt clean tt) (λ honest. rw is (record {
+    step = λ _. decides.step honest;
+    writes = λ _. decides.writes honest;
+    news = λ _. decides.news honest;
+    made = decides.made;
+    refused = decides.refused;
+    damaged = λ told _. decides.damaged told honest;
+  }))
+  edit_look g (Err Damaged) given old new reads is decides = decided_open g Decides _ given reads (λ clean. reads.read tt clean refl) (λ honest. rw (is.0, is.1) (record {
+    step = λ _ office stands. absurd (no_damage Plan (g.content old) id (decides refl honest) office stands);
+    writes = λ _ office stands. refl;
+    news = λ _. tt;
+    made = λ moved. absurd moved;
+    refused = λ refused. refl;
+    damaged = λ said _. decides refl honest;
+  }))
+  edit_look g (Err _) given old new reads is decides = decided_idly g Decides _ given reads is.0
+      (λ tables. rw (is.0, is.1) (told ⊤ tables id clerk edit _ (λ side. refl) (λ moved. moved) (λ e. cc) (λ _. unavailable_edit tables)))
 
   was_edited : (tables : Content) (decided : Decided) (made : Result Unit ShelfFault) → Decides tables decided
       → WasAnswered (λ before. AnswersAnyEdit before id clerk edit) (λ before. HasDamageIn Plan before id) tables (reply_made made decided.reply) (changed_by tables (rows_made made decided.changes.items))

@@ -15,26 +15,18 @@ pub still_held : {S : Type 0} (g : Ghosts S) (old new : S) (tables : Content) �
 still_held g old new tables kept held honest = kept.same_content honest ∙ held (kept.honest_before honest)
 
 module _ {S : Type 0} {g : Ghosts S} where
-  -- what is said of the tables of an open database, or of any
-  pub looks_so : {old new : S} {Says : Content → Type 0} → KeepsShelf g old new → (g.is_clean new → g.is_clean old)
-      → (g.is_clean new → (g.is_honest new × Says (g.content old)) ⊎ ((tables : Content) → Says tables)) → OnlyLooks g old new Says
-  looks_so {Says = Says} kept before says = record {
-    kept = kept;
-    clean = before;
-    tells = λ clean tables held. elim (says clean) [
-      | inl here ↦ subst Says (held (kept.honest_before here.0)) here.1
-      | inr any ↦ any tables
-    ];
-  }
-
   -- nothing was asked
   pub looks_none : {shelf : S} {Says : Content → Type 0} → ((tables : Content) → Says tables) → OnlyLooks g shelf shelf Says
-  looks_none says = looks_so (record {
-    honest_before = λ honest. honest;
-    same_content = λ _. refl;
-    same_counts = refl;
-    same_outcomes = λ tables left. left;
-  }) (λ clean. clean) (λ clean. inr says)
+  looks_none says = record {
+    kept = record {
+      honest_before = λ honest. honest;
+      same_content = λ _. refl;
+      same_counts = refl;
+      same_outcomes = λ tables left. left;
+    };
+    clean = λ clean. clean;
+    tells = λ clean tables held. says tables;
+  }
 
   -- what was asked says this too
   pub looks_weaker : {old new : S} {Says Other : Content → Type 0} → OnlyLooks g old new Says → ((tables : Content) → Says tables → Other tables) → OnlyLooks g old new Other
@@ -72,44 +64,42 @@ module _ {S : Type 0} {g : Ghosts S} where
 
 -- ---- what a read of a shelf gives, with its fault as a refusal
 
+-- what is reported, by the clauses of a shelf
+pub shelf_reports : {A : Type 0} (is_honest : Type 0) (Says : A → Type 0) (damage : Type 0) (read : Result A ShelfFault) → IfOk read (λ it. is_honest → Says it)
+    → (read ≡ Err StoredDamaged → is_honest → damage) → Reports is_honest read Says damage
+shelf_reports is_honest Says damage (Ok it) says meets = says
+shelf_reports is_honest Says damage (Err why) says meets = λ damaged. meets (ap Err damaged)
+
+-- the result of a read, its fault as the refusal
+abbrev pub IsRefusedAs : {A : Type 0} → Result A ShelfFault → Result A Refusal → Type 0
+IsRefusedAs read result = MatchResult read (λ it. result ≡ Ok it) (λ fault. IsErrAnd result (λ why. why ≡ refusal_of fault))
+
 -- it was told, or refused with Unavailable
-told_or : {A : Type 0} (read : Result A ShelfFault) (result : Result A Refusal) → MatchResult read (λ it. result ≡ Ok it) (λ fault. IsErrAnd result (λ why. why ≡ refusal_of fault))
-    → IsTold read ⊎ (result ≡ Err Unavailable)
+told_or : {A : Type 0} (read : Result A ShelfFault) (result : Result A Refusal) → IsRefusedAs read result → IsTold read ⊎ (result ≡ Err Unavailable)
 told_or (Ok it) result is = inl tt
 told_or (Err StoredDamaged) result is = inl refl
 told_or (Err why) (Ok it) is = absurd is
 told_or (Err _) (Err why) is = inr (ap Err is)
 
-gives : {A : Type 0} {is_honest : Type 0} (Says : A → Type 0) (damage : Type 0) (read : Result A ShelfFault) (result : Result A Refusal)
-    → MatchResult read (λ it. result ≡ Ok it) (λ fault. IsErrAnd result (λ why. why ≡ refusal_of fault)) → Reports is_honest read Says damage → is_honest → Gives result Says damage
-gives Says damage (Ok it) result is reports honest = rw is (reports honest)
-gives Says damage (Err why) (Ok it) is reports honest = absurd is
-gives Says damage (Err StoredDamaged) (Err why) is reports honest = inr (is, reports refl honest)
-gives Says damage (Err _) (Err why) is reports honest = inl is
+gives : {A : Type 0} {is_honest : Type 0} (Says More : A → Type 0) (damage : Type 0) (read : Result A ShelfFault) (result : Result A Refusal)
+    → IsRefusedAs read result → Reports is_honest read Says damage → ((it : A) → Says it → More it) → is_honest → Gives result More damage
+gives Says More damage (Ok it) result is reports more honest = rw is (more it (reports honest))
+gives Says More damage (Err why) (Ok it) is reports more honest = absurd is
+gives Says More damage (Err StoredDamaged) (Err why) is reports more honest = inr (is, reports refl honest)
+gives Says More damage (Err _) (Err why) is reports more honest = inl is
 
--- what is reported of a shelf, where more is known of what it read
-pub shelf_reports : {A : Type 0} (is_honest : Type 0) (Says More : A → Type 0) (damage : Type 0) (read : Result A ShelfFault) → IfOk read (λ it. is_honest → Says it)
-    → (read ≡ Err StoredDamaged → is_honest → damage) → ((it : A) → Says it → More it) → Reports is_honest read More damage
-shelf_reports is_honest Says More damage (Ok it) says meets more = λ honest. more it (says honest)
-shelf_reports is_honest Says More damage (Err why) says meets more = λ damaged. meets (ap Err damaged)
-
-pub reports_more : {A : Type 0} (is_honest : Type 0) (Says More : A → Type 0) (damage : Type 0) (read : Result A ShelfFault) → Reports is_honest read Says damage → ((it : A) → Says it → More it)
-    → Reports is_honest read More damage
-reports_more is_honest Says More damage (Ok it) says more = λ honest. more it (says honest)
-reports_more is_honest Says More damage (Err why) meets more = meets
-
-module _ {S : Type 0} {g : Ghosts S} {old new : S} {A : Type 0} (read : Result A ShelfFault) (result : Result A Refusal) (Says : Content → A → Type 0) (Meets : Content → Type 0)
+module _ {S : Type 0} {g : Ghosts S} {old new : S} {A : Type 0} (read : Result A ShelfFault) (result : Result A Refusal) (Says More : Content → A → Type 0) (Meets : Content → Type 0)
     (kept : KeepsShelf g old new) (clean_before : g.is_clean new → g.is_clean old) (reports : Reports (g.is_honest new) read (Says (g.content old)) (Meets (g.content old)))
-    (is : MatchResult read (λ it. result ≡ Ok it) (λ fault. IsErrAnd result (λ why. why ≡ refusal_of fault))) where
-  pub gives_open : OnlyLooks g old new (λ tables. g.is_honest new → Gives result (Says tables) (Meets tables))
+    (is : IsRefusedAs read result) (more : (tables : Content) (it : A) → Says tables it → More tables it) where
+  pub gives_open : OnlyLooks g old new (λ tables. g.is_honest new → Gives result (More tables) (Meets tables))
   gives_open = record {
     kept = kept;
     clean = clean_before;
-    tells = λ clean tables held honest. subst (λ t. Gives result (Says t) (Meets t)) (held (kept.honest_before honest)) (gives (Says (g.content old)) (Meets (g.content old)) read result is reports honest);
+    tells = λ clean tables held honest. subst (λ t. Gives result (More t) (Meets t)) (held (kept.honest_before honest)) (gives _ _ _ read result is reports (more (g.content old)) honest);
   }
 
   -- where what is told was read from an open database
-  pub gives_looks : (g.is_clean new → IsTold read → g.is_honest new) → OnlyLooks g old new (λ tables. Gives result (Says tables) (Meets tables))
+  pub gives_looks : (g.is_clean new → IsTold read → g.is_honest new) → OnlyLooks g old new (λ tables. Gives result (More tables) (Meets tables))
   gives_looks told = record {
     kept = kept;
     clean = clean_before;

@@ -1,7 +1,7 @@
 -- From a decision to what was done, and from steps to runs.
 use Rattle.std.proofs.Common.{◌≡◌, ◌≢◌, ◌⊎◌, List, [], ◌∷◌, ◌++◌, ℕ, Result, Ok, Err, refl, ap, sym, subst, ◌∙◌, inl, inr}
 use Rattle.office_desk.specs.{Answers.AnswersAny, Answers.StandsAfterStep, Changes.IsRefused, Damage.MeetsDamage, StandFor.StandForSound}
-use Rattle.office_desk.specs.Running.{Answered, IsAnswered, IsDone, IsRun, MakesTables, RunsAny, RunsTo, StopLeaves, reply_made, rows_made}
+use Rattle.office_desk.specs.Running.{Answered, IsAnswered, IsDone, IsRun, MakesTables, Reaches, RunsAny, StopLeaves, reply_made, rows_made}
 use Rattle.office_desk.proofs.{Answering.idle_answers, RegisterLaws.runs_register, Repeats.runs_repeat, Street.keeps_the_street, TimingLaw.runs_timing}
 use Rattle.office_machine.specs.Step.{AreSound, Step, Run, answered}
 use Rattle.office_machine.specs.{Office.Office, Office.IsSound}
@@ -72,13 +72,7 @@ module _ {S : Type 0} {g : Ghosts S} {command : Command} {reply : Reply} {old ne
 
 -- ---- commands in turn
 
--- from an office, the replies are those of a run, each office of which is sound, and the tables stand for the last
-pub record Reaches (office : Office) (commands : List Command) (replies : List Reply) (tables : Content) : Type 0 where
-  pub last : Office
-  pub run : Run office commands replies last
-  pub sound : AreSound office commands replies last run
-  pub stand : StandForSound tables last
-
+-- whichever sound office the old tables stand for
 abbrev pub ReachesAny : List Command → List Reply → Content → Content → Type 0
 ReachesAny commands replies old new = (office : Office) → StandForSound old office → Reaches office commands replies new
 
@@ -101,19 +95,6 @@ reaches_more commands replies command reply old mid new before step office stand
     let more = run_more commands replies office first.last now.next command reply first.run first.sound now.step now.stand.sound in
     record { last = now.next; run = more.0; sound = more.1; stand = now.stand }
 
--- a run reaches its last office, and keeps the laws
-runs_so : (office : Office) (commands : List Command) (replies : List Reply) (tables : Content) → IsSound office → Reaches office commands replies tables → RunsTo office commands replies tables
-runs_so office commands replies tables sound it = record {
-  last = it.last;
-  run = it.run;
-  sound = it.sound;
-  stand = it.stand;
-  street = keeps_the_street it.last it.stand.sound;
-  running = λ id. runs_timing id _ commands replies office it.last it.run refl;
-  register = runs_register commands replies office it.last it.run sound it.stand.sound;
-  repeats = runs_repeat commands replies office it.last it.run;
-}
-
 module _ {S : Type 0} (g : Ghosts S) where
   pub makes_none : (shelf : S) (replies : List Reply) → replies ≡ [] → MakesTables g shelf shelf (ReachesAny [] replies)
   makes_none shelf replies none = rw none (λ clean tables held. (tables, λ office stands. record { last = office; run = refl; sound = stands.sound; stand = stands }, held))
@@ -127,5 +108,16 @@ module _ {S : Type 0} (g : Ghosts S) where
 
   pub run_ends : (commands : List Command) (replies : List Reply) {old new : S} → MakesTables g old new (ReachesAny commands replies) → MakesTables g old new (λ tables. RunsAny tables commands replies)
   run_ends commands replies makes clean tables held =
-      let made = makes clean tables held in
-      (made.0, λ office stands. runs_so office commands replies made.0 stands.sound (made.1 office stands), made.2)
+      let made = makes clean tables held in (
+        made.0,
+        λ office stands.
+            let it = made.1 office stands in
+            record {
+              reached = it;
+              street = keeps_the_street it.last it.stand.sound;
+              running = λ id. runs_timing id _ commands replies office it.last it.run refl;
+              register = runs_register commands replies office it.last it.run stands.sound it.stand.sound;
+              repeats = runs_repeat commands replies office it.last it.run;
+            },
+        made.2,
+      )

@@ -116,19 +116,22 @@ StopLeaves g old new After =
 abbrev pub KeepsTheStreet : Type 0
 KeepsTheStreet = (office : Office) → IsSound office → (id : ℕ) → StreetLaws (side_at office id).committed
 
--- From an office, the replies are those of a run, each office of which is sound, and the tables stand for the last. Each of its committed
--- sets keeps the laws of the street, and is the draft as it stood just before its last accepted commit, or what it was at the start (empty
--- where there was no intersection). Orders and stock are what the accepted commands of the register made of them. An import that was
--- accepted and is sent again adds nothing.
-pub record RunsTo (office : Office) (commands : List Command) (replies : List Reply) (tables : Content) : Type 0 where
+-- from an office, the replies are those of a run, each office of which is sound, and the tables stand for the last
+pub record Reaches (office : Office) (commands : List Command) (replies : List Reply) (tables : Content) : Type 0 where
   pub last : Office
   pub run : Run office commands replies last
   pub sound : AreSound office commands replies last run
   pub stand : StandForSound tables last
-  pub street : (id : ℕ) → StreetLaws (side_at last id).committed
-  pub running : (id : ℕ) → (side_at last id).committed ≡ running_plan id (side_at office id).committed office commands replies last run
-  pub register : RegisterRuns office commands replies last run
-  pub repeats : Repeats office commands replies last run
+
+-- Such a run keeps the laws. Each committed set of the last office keeps the laws of the street, and is the draft as it stood just before its last accepted commit, or
+-- what it was at the start (empty where there was no intersection). Orders and stock are what the accepted commands of the register made of them. An import that
+-- was accepted and is sent again adds nothing.
+pub record RunsTo (office : Office) (commands : List Command) (replies : List Reply) (tables : Content) : Type 0 where
+  pub reached : Reaches office commands replies tables
+  pub street : (id : ℕ) → StreetLaws (side_at reached.last id).committed
+  pub running : (id : ℕ) → (side_at reached.last id).committed ≡ running_plan id (side_at office id).committed office commands replies reached.last reached.run
+  pub register : RegisterRuns office commands replies reached.last reached.run
+  pub repeats : Repeats office commands replies reached.last reached.run
 
 -- Whichever sound office the old tables stand for, the replies and the new tables are a run of it.
 abbrev pub RunsAny : Content → List Command → List Reply → Content → Type 0

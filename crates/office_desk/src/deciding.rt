@@ -5,9 +5,8 @@ ghost use Rattle.office_desk.specs.Deciding.{AddsNothing, Decides};
 ghost use Rattle.office_desk_timing.specs.Decisions.{refusal_of};
 
 use crate::importing::decide_import;
-use crate::overdue::decide_overdue;
 use crate::recording::decide_record_command;
-use crate::register_showing::{decide_cabinet, decide_open_orders, decide_stock};
+use crate::register_showing::{decide_cabinet, decide_open_orders, decide_overdue, decide_stock};
 use draft_core::step::Step;
 use office_desk_timing::{decide_add, decide_draft, decide_state, decide_timing, transact};
 use office_machine::command::Command;

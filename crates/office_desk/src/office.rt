@@ -10,6 +10,7 @@ ghost use Rattle.office_desk.specs.Asks.{Gives, OnlyLooks};
 ghost use Rattle.office_desk.specs.Checking.{Checks};
 ghost use Rattle.office_desk.specs.Damage.{MeetsDamage, MeetsImportDamage};
 ghost use Rattle.office_desk.specs.Deciding.{DecidesIdly};
+ghost use Rattle.office_desk.specs.Editing.{EditsPlan};
 ghost use Rattle.office_desk.specs.Running.{CarriesOut, IsAnswered, IsDecided, IsRun, MakesTables, RunsAny, WritesRows};
 ghost use Rattle.office_desk.specs.StandFor.{StandForSound};
 ghost use Rattle.office_desk_timing.specs.Listing.{ListsEachIntersection};
@@ -20,7 +21,7 @@ ghost use Rattle.office_machine.specs.Step.{overdue_on};
 use crate::checking::{Checked, check_records};
 use crate::deciding::{or_refusal, shelf_refusal, try_decide};
 use cabinet_core::{Day, Order, OverdueRow, RecordCommand};
-use office_desk_timing::list_intersections;
+use office_desk_timing::{PlanEdit, decide_revision, list_intersections};
 use office_machine::command::Command;
 use office_machine::intersections::ListedIntersection;
 use office_machine::refusal::Refusal;
@@ -28,7 +29,7 @@ use office_machine::reply::Reply;
 use office_tables_decisions::decided::Decided;
 use office_tables_shelf::rows::RowChange;
 use office_tables_shelf::shelf::{Shelf, ShelfFault};
-use signal_records::{InterId, NoMemory};
+use signal_records::{InterId, NoMemory, Words};
 use std::alloc::Global;
 use std::collections::BTreeMap;
 use std::marker::Model;
@@ -123,6 +124,26 @@ impl<S: Shelf> Office<S> {
         }
     }
 
+    /// Edits the plan of an intersection for a clerk, in one step: its draft is taken up, or begun
+    /// where nobody holds one, changed, and committed where that is asked for and it breaks no
+    /// rule; all of that or none. `Same` where the plan is the committed set and nobody holds a
+    /// draft; else `Moved`, in state Normal exactly where the plan was committed. A refusal changes
+    /// nothing: that of the first step that is refused, `UnknownIntersection`, Unavailable where
+    /// memory or the shelf refuses, or Damaged where a stored row of the plan is no record. A crash
+    /// leaves the office before the edit or after all of it, and after it alone once it is told.
+    pub fn revise(
+        &mut self,
+        alloc: Global,
+        id: InterId,
+        clerk: &Words<40>,
+        edit: &PlanEdit,
+    ) -> Reply
+        ensures { EditsPlan S.Shelf id clerk.now edit.now result self.old self.new }
+    {
+        let decided = decide_revision(&mut self.shelf, alloc, id, clerk, edit);
+        self.make(alloc, or_refusal(alloc, decided))
+    }
+
     /// Runs commands in turn, and gives a reply for each, in their order; a refused command stops
     /// none after it. NoMemory means that there is no room for the replies: then none was run.
     pub fn run_all(&mut self, alloc: Global, commands: &[Command]) -> Result<Vec<Reply>, NoMemory>
@@ -167,7 +188,9 @@ impl<S: Shelf> Office<S> {
             map listed_of found.items ≡ take most (overdue_on office day))
             (MeetsDamage tables (Command.Overdue day))) }
     {
-        self.shelf.overdue_rows(alloc, day, most).map_err(shelf_refusal)
+        self.shelf
+            .overdue_rows(alloc, day, most)
+            .map_err(shelf_refusal)
     }
 
     /// All intersections, in ascending order of their numbers, one for each row of their table, even

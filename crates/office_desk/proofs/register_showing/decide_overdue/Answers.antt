@@ -3,7 +3,7 @@ use Rattle.cabinet_core.specs.Overdue.{Listed}
 use Rattle.office_machine.specs.declared.reply.Reply.TheVariants.{Overdue}
 use Rattle.office_tables_decisions.proofs.Decisions.{told_decides}
 use Rattle.office_desk.proofs.OverdueRows.{overdue_shows}
-use Rattle.office_desk.proofs.overdue.decide_overdue.Goals as goal
+use Rattle.office_desk.proofs.register_showing.decide_overdue.Goals as goal
 
 pub returns-clause-decides : goal.returns-clause-decides
 returns-clause-decides g c =
