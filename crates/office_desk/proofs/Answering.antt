@@ -1,10 +1,10 @@
 -- From what was decided by reads to what a command is answered.
-use Rattle.std.proofs.Common.{◌≡◌, ◌≢◌, ◌⊎◌, [], Result, Ok, Err, IsOkAnd, refl, ap, subst, sym, ◌∙◌, inl, inr, arith}
+use Rattle.std.proofs.Common.{◌≡◌, ◌≢◌, ◌⊎◌, [], Result, Ok, Err, IsOkAnd, refl, ap, sym, ◌∙◌, inl, inr, arith}
 use Rattle.std.specs.Prelude.{MatchResult}
 use Rattle.office_desk_timing.specs.Decisions.{refusal_of}
-use Rattle.office_desk.proofs.Looks.{looks_weaker}
-use Rattle.office_desk.specs.{Answers.AnswersAny, Asks.ReadsOffice, Damage.MeetsDamage, Named.IsNamedFor, Running.IsAnswered, Running.IsDecided}
-use Rattle.office_desk.specs.Deciding.{AddsNothing, Decides, DecidesIdly, IsDecision, IsIdle}
+use Rattle.office_desk.proofs.Looks.{looks_any, looks_open, looks_weaker}
+use Rattle.office_desk.specs.{Answers.AnswersAny, Asks.OnlyLooks, Asks.ReadsOffice, Damage.MeetsDamage, Named.IsNamedFor, Running.IsAnswered}
+use Rattle.office_desk.specs.Deciding.{AddsNothing, Decides, IsDecision, IsIdle}
 use Rattle.office_desk.proofs.Undamaged.{damage_refuted}
 use Rattle.office_machine.specs.{Office.Office, Step.Step, Step.answered}
 use Rattle.office_machine.specs.declared.{command.Command.Command, command.Command.TheVariants.Import, refusal.Refusal.Refusal, reply.Reply.Reply, reply.Reply.TheVariants.Imported, reply.Reply.TheVariants.Refused}
@@ -76,38 +76,19 @@ asks_nothing : (command : Command) → (command ≡ Import []) ⊎ (command ≢ 
 asks_nothing (Import []) = inl refl
 asks_nothing _ = inr (λ e. cc)
 
--- ---- on a database that is open, or was shut
+-- ---- by a shelf that was only read
 
 -- what was decided, or the refusal of a fault
 abbrev pub IsTold : Result Decided ShelfFault → Decided → Type 0
 IsTold read given = MatchResult read (λ decided. given ≡ decided) (λ fault. (given.reply ≡ Refused (refusal_of fault)) × (given.changes.items ≡ []))
 
-module _ {S : Type 0} (g : Ghosts S) {reads : Type 0} {read : Result Decided ShelfFault} {old new : S} (Decides : Content → Decided → Type 0) (Idle : Decided → Type 0) (given : Decided)
-    (it : OnlyReads g reads read old new) where
-  pub decided_open : (g.is_clean new → g.is_honest new) → (g.is_honest new → Decides (g.content old) given) → IsDecided g Decides Idle given old new
-  decided_open opened decides = record {
-    looks = record {
-      kept = it.kept;
-      clean = it.clean_before;
-      tells = λ clean tables held. let honest = opened clean in subst (λ t. Decides t given) (held (it.kept.honest_before honest)) (decides honest);
-    };
-    shut = λ clean. inl (opened clean);
-  }
-
-  pub decided_idly : Idle given → ((tables : Content) → Decides tables given) → IsDecided g Decides Idle given old new
-  decided_idly idle decides = record { looks = record { kept = it.kept; clean = it.clean_before; tells = λ clean tables held. decides tables }; shut = λ clean. inr idle }
-
-idly_decided : {S : Type 0} (g : Ghosts S) {reads : Type 0} {read : Result Decided ShelfFault} {old new : S} (command : Command) (given : Decided) → OnlyReads g reads read old new
-    → IsIdle command given.reply → given.changes.items ≡ [] → IsDecided g (λ tables. IsAnswered tables command) (DecidesIdly command) given old new
-idly_decided g command given reads idle none = decided_idly g _ _ given reads (record { idle = idle; no_changes = none }) (idle_answered command given none idle)
-
 -- a command that was decided, or a fault of the shelf as its refusal
 pub decided_look : {S : Type 0} (g : Ghosts S) (command : Command) (read : Result Decided ShelfFault) (given : Decided) (old new : S) → OnlyReads g (command ≢ Import []) read old new → IsTold read given
-    → Decides (g.is_honest new) (g.content old) command read → (command ≡ Import [] → IsOkAnd read AddsNothing) → IsDecided g (λ tables. IsAnswered tables command) (DecidesIdly command) given old new
+    → Decides (g.is_honest new) (g.content old) command read → (command ≡ Import [] → IsOkAnd read AddsNothing) → OnlyLooks g old new (λ tables. IsAnswered tables command given)
 decided_look g command (Ok decided) given old new reads is decides nothing = elim (asks_nothing command) [
-  | inl none ↦ let it = nothing none in idly_decided g command given reads (inr (none, rw is it.0)) (rw is it.1)
-  | inr some ↦ decided_open g _ _ given reads (λ clean. reads.read some clean tt) (λ honest. rw is (decided_answered _ _ command decided honest decides))
+  | inl none ↦ let it = nothing none in looks_any reads.kept reads.clean_before (idle_answered command given (rw is it.1) (inr (none, rw is it.0)))
+  | inr some ↦ looks_open reads.kept reads.clean_before (λ clean. reads.read some clean tt) (λ honest. rw is (decided_answered _ _ command decided honest decides))
 ]
 decided_look g command (Err Damaged) given old new reads is decides nothing =
-    decided_open g _ _ given reads (λ clean. reads.read nothing clean refl) (λ honest. damaged_answered command given is.1 is.0 (g.content old) (decides refl honest))
-decided_look g command (Err _) given old new reads is decides nothing = idly_decided g command given reads (inl is.0) is.1
+    looks_open reads.kept reads.clean_before (λ clean. reads.read nothing clean refl) (λ honest. damaged_answered command given is.1 is.0 (g.content old) (decides refl honest))
+decided_look g command (Err _) given old new reads is decides nothing = looks_any reads.kept reads.clean_before (idle_answered command given is.1 (inl is.0))

@@ -2,8 +2,8 @@
 use Rattle.std.proofs.Common.{◌≡◌, ◌⊎◌, List, [], ℕ, Result, Ok, Err, refl, inl, inr}
 use Rattle.std.specs.Prelude.{⊤}
 use Rattle.draft_core.specs.declared.timing.Reach.TheVariants.{Plan}
-use Rattle.office_desk.specs.{Damage.HasDamageIn, Editing.AfterEdit, Editing.EditsPlan, Running.IsDecided, Running.MakesTables, Running.StopLeaves, Running.WasAnswered, Running.reply_made, Running.rows_made}
-use Rattle.office_desk.proofs.{Answering.IsTold, Answering.decided_idly, Answering.decided_open, Runs.done_makes, Runs.done_stops}
+use Rattle.office_desk.specs.{Asks.OnlyLooks, Damage.HasDamageIn, Editing.AfterEdit, Editing.EditsPlan, Running.MakesTables, Running.StopLeaves, Running.WasAnswered, Running.reply_made, Running.rows_made}
+use Rattle.office_desk.proofs.{Answering.IsTold, Looks.looks_any, Looks.looks_open, Runs.done_makes, Runs.done_stops}
 use Rattle.office_desk_timing.specs.Revising.{AnswersAnyEdit, DecidesEdit, IsEditDecision}
 use Rattle.office_desk_timing.specs.declared.revising.PlanEdit.{PlanEdit}
 use Rattle.office_desk_timing.proofs.{Revisions.told, Stands.no_damage}
@@ -23,8 +23,8 @@ module _ (id : ℕ) (clerk : List ℕ) (edit : PlanEdit) where
 
   -- an edit that was decided, or a fault of the shelf as its refusal
   pub edit_look : {S : Type 0} (g : Ghosts S) (read : Result Decided ShelfFault) (given : Decided) (old new : S) → OnlyReads g ⊤ read old new → IsTold read given
-      → DecidesEdit (g.is_honest new) (g.content old) id clerk edit read → IsDecided g Decides (λ decided. decided.reply ≡ Refused refusal.Unavailable) given old new
-  edit_look g (Ok decided) given old new reads is decides = decided_open g Decides _ given reads (λ clean. reads.read tt clean tt) (λ honest. rw is (record {
+      → DecidesEdit (g.is_honest new) (g.content old) id clerk edit read → OnlyLooks g old new (λ tables. Decides tables given)
+  edit_look g (Ok decided) given old new reads is decides = looks_open reads.kept reads.clean_before (λ clean. reads.read tt clean tt) (λ honest. rw is (record {
     step = λ _. decides.step honest;
     writes = λ _. decides.writes honest;
     news = λ _. decides.news honest;
@@ -32,7 +32,7 @@ module _ (id : ℕ) (clerk : List ℕ) (edit : PlanEdit) where
     refused = decides.refused;
     damaged = λ told _. decides.damaged told honest;
   }))
-  edit_look g (Err Damaged) given old new reads is decides = decided_open g Decides _ given reads (λ clean. reads.read tt clean refl) (λ honest. rw (is.0, is.1) (record {
+  edit_look g (Err Damaged) given old new reads is decides = looks_open reads.kept reads.clean_before (λ clean. reads.read tt clean refl) (λ honest. rw (is.0, is.1) (record {
     step = λ _ office stands. absurd (no_damage Plan (g.content old) id (decides refl honest) office stands);
     writes = λ _ office stands. refl;
     news = λ _. tt;
@@ -40,7 +40,7 @@ module _ (id : ℕ) (clerk : List ℕ) (edit : PlanEdit) where
     refused = λ refused. refl;
     damaged = λ said _. decides refl honest;
   }))
-  edit_look g (Err _) given old new reads is decides = decided_idly g Decides _ given reads is.0
+  edit_look g (Err _) given old new reads is decides = looks_any reads.kept reads.clean_before
       (λ tables. rw (is.0, is.1) (told ⊤ tables id clerk edit _ (λ side. refl) (λ moved. moved) (λ e. cc) (λ _. unavailable_edit tables)))
 
   was_edited : (tables : Content) (decided : Decided) (made : Result Unit ShelfFault) → Decides tables decided

@@ -15,18 +15,27 @@ pub still_held : {S : Type 0} (g : Ghosts S) (old new : S) (tables : Content) �
 still_held g old new tables kept held honest = kept.same_content honest ∙ held (kept.honest_before honest)
 
 module _ {S : Type 0} {g : Ghosts S} where
+  -- what is said of the tables that an open database holds
+  pub looks_open : {old new : S} {Says : Content → Type 0} → KeepsShelf g old new → (g.is_clean new → g.is_clean old) → (g.is_clean new → g.is_honest new)
+      → (g.is_honest new → Says (g.content old)) → OnlyLooks g old new Says
+  looks_open {Says = Says} kept before opened says = record {
+    kept = kept;
+    clean = before;
+    tells = λ clean tables held. let honest = opened clean in subst Says (held (kept.honest_before honest)) (says honest);
+  }
+
+  -- what is said of any
+  pub looks_any : {old new : S} {Says : Content → Type 0} → KeepsShelf g old new → (g.is_clean new → g.is_clean old) → ((tables : Content) → Says tables) → OnlyLooks g old new Says
+  looks_any kept before says = record { kept = kept; clean = before; tells = λ clean tables held. says tables }
+
   -- nothing was asked
   pub looks_none : {shelf : S} {Says : Content → Type 0} → ((tables : Content) → Says tables) → OnlyLooks g shelf shelf Says
-  looks_none says = record {
-    kept = record {
-      honest_before = λ honest. honest;
-      same_content = λ _. refl;
-      same_counts = refl;
-      same_outcomes = λ tables left. left;
-    };
-    clean = λ clean. clean;
-    tells = λ clean tables held. says tables;
-  }
+  looks_none says = looks_any (record {
+    honest_before = λ honest. honest;
+    same_content = λ _. refl;
+    same_counts = refl;
+    same_outcomes = λ tables left. left;
+  }) (λ clean. clean) says
 
   -- what was asked says this too
   pub looks_weaker : {old new : S} {Says Other : Content → Type 0} → OnlyLooks g old new Says → ((tables : Content) → Says tables → Other tables) → OnlyLooks g old new Other
@@ -74,19 +83,13 @@ shelf_reports is_honest Says damage (Err why) says meets = λ damaged. meets (ap
 abbrev pub IsRefusedAs : {A : Type 0} → Result A ShelfFault → Result A Refusal → Type 0
 IsRefusedAs read result = MatchResult read (λ it. result ≡ Ok it) (λ fault. IsErrAnd result (λ why. why ≡ refusal_of fault))
 
--- it was told, or refused with Unavailable
-told_or : {A : Type 0} (read : Result A ShelfFault) (result : Result A Refusal) → IsRefusedAs read result → IsTold read ⊎ (result ≡ Err Unavailable)
-told_or (Ok it) result is = inl tt
-told_or (Err StoredDamaged) result is = inl refl
-told_or (Err why) (Ok it) is = absurd is
-told_or (Err _) (Err why) is = inr (ap Err is)
-
-gives : {A : Type 0} {is_honest : Type 0} (Says More : A → Type 0) (damage : Type 0) (read : Result A ShelfFault) (result : Result A Refusal)
-    → IsRefusedAs read result → Reports is_honest read Says damage → ((it : A) → Says it → More it) → is_honest → Gives result More damage
-gives Says More damage (Ok it) result is reports more honest = rw is (more it (reports honest))
-gives Says More damage (Err why) (Ok it) is reports more honest = absurd is
-gives Says More damage (Err StoredDamaged) (Err why) is reports more honest = inr (is, reports refl honest)
-gives Says More damage (Err _) (Err why) is reports more honest = inl is
+-- on an open database it gives what is said; and it was told, or refused with Unavailable
+gives : {A : Type 0} {is_honest : Type 0} (Says More : A → Type 0) (damage : Type 0) (read : Result A ShelfFault) (result : Result A Refusal) → IsRefusedAs read result
+    → Reports is_honest read Says damage → ((it : A) → Says it → More it) → (is_honest → Gives result More damage) × (IsTold read ⊎ (result ≡ Err Unavailable))
+gives Says More damage (Ok it) result is reports more = (λ honest. rw is (more it (reports honest)), inl tt)
+gives Says More damage (Err why) (Ok it) is reports more = absurd is
+gives Says More damage (Err StoredDamaged) (Err why) is reports more = (λ honest. inr (is, reports refl honest), inl refl)
+gives Says More damage (Err _) (Err why) is reports more = (λ honest. inl is, inr (ap Err is))
 
 module _ {S : Type 0} {g : Ghosts S} {old new : S} {A : Type 0} (read : Result A ShelfFault) (result : Result A Refusal) (Says More : Content → A → Type 0) (Meets : Content → Type 0)
     (kept : KeepsShelf g old new) (clean_before : g.is_clean new → g.is_clean old) (reports : Reports (g.is_honest new) read (Says (g.content old)) (Meets (g.content old)))
@@ -95,7 +98,7 @@ module _ {S : Type 0} {g : Ghosts S} {old new : S} {A : Type 0} (read : Result A
   gives_open = record {
     kept = kept;
     clean = clean_before;
-    tells = λ clean tables held honest. subst (λ t. Gives result (More t) (Meets t)) (held (kept.honest_before honest)) (gives _ _ _ read result is reports (more (g.content old)) honest);
+    tells = λ clean tables held honest. subst (λ t. Gives result (More t) (Meets t)) (held (kept.honest_before honest)) ((gives _ _ _ read result is reports (more (g.content old))).0 honest);
   }
 
   -- where what is told was read from an open database
@@ -103,7 +106,7 @@ module _ {S : Type 0} {g : Ghosts S} {old new : S} {A : Type 0} (read : Result A
   gives_looks told = record {
     kept = kept;
     clean = clean_before;
-    tells = λ clean tables held. elim (told_or read result is) [
+    tells = λ clean tables held. elim (gives _ _ _ read result is reports (more (g.content old))).1 [
       | inl was ↦ gives_open.tells clean tables held (told clean was)
       | inr not ↦ rw not (inl refl)
     ];

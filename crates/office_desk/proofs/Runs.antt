@@ -15,12 +15,12 @@ none_or_some (x ∷ xs) = inr (λ e. cc)
 
 -- ---- what was done
 
-module _ {S : Type 0} {g : Ghosts S} {Decides : Content → Decided → Type 0} {Idle : Decided → Type 0} {reply : Reply} {old new : S} (it : IsDone g Decides Idle reply old new) where
+module _ {S : Type 0} {g : Ghosts S} {Decides : Content → Decided → Type 0} {reply : Reply} {old new : S} (it : IsDone g Decides reply old new) where
   pub done_clean : g.is_clean new → g.is_clean old
-  done_clean clean = it.reads.looks.clean (it.carried.writes.clean clean)
+  done_clean clean = it.looks.clean (it.carried.writes.clean clean)
 
   pub done_honest : g.is_honest new → g.is_honest old
-  done_honest honest = it.reads.looks.kept.honest_before (it.carried.writes.honest honest)
+  done_honest honest = it.looks.kept.honest_before (it.carried.writes.honest honest)
 
   -- what a decision makes of the tables, by its rows that were written
   pub done_makes : (Makes : Content → Content → Type 0) → ((tables : Content) → Decides tables it.decided → Makes tables (changed_by tables (rows_made it.carried.made it.decided.changes.items)))
@@ -28,10 +28,10 @@ module _ {S : Type 0} {g : Ghosts S} {Decides : Content → Decided → Type 0} 
   done_makes Makes makes clean tables held =
       let rows = rows_made it.carried.made it.decided.changes.items in (
         changed_by tables rows,
-        makes tables (it.reads.looks.tells (it.carried.writes.clean clean) tables held),
+        makes tables (it.looks.tells (it.carried.writes.clean clean) tables held),
         λ honest.
             let before = it.carried.writes.honest honest in
-            it.carried.writes.made honest ∙ ap (λ t. changed_by t rows) (it.reads.looks.kept.same_content before ∙ held (it.reads.looks.kept.honest_before before)),
+            it.carried.writes.made honest ∙ ap (λ t. changed_by t rows) (it.looks.kept.same_content before ∙ held (it.looks.kept.honest_before before)),
       )
 
   -- a stop leaves what it could leave before, or what all rows of the decision make of the tables
@@ -39,11 +39,11 @@ module _ {S : Type 0} {g : Ghosts S} {Decides : Content → Decided → Type 0} 
       → ((tables : Content) → Decides tables it.decided → it.decided.changes.items ≢ [] → After tables (changed_by tables it.decided.changes.items))
       → StopLeaves g old new After
   done_stops After after clean tables held found may = elim (it.carried.writes.crash found may) [
-    | inl before ↦ inl (it.reads.looks.kept.same_outcomes found before)
+    | inl before ↦ inl (it.looks.kept.same_outcomes found before)
     | inr made ↦
-        let same = it.reads.looks.kept.same_content made.0 ∙ held (it.reads.looks.kept.honest_before made.0) in
+        let same = it.looks.kept.same_content made.0 ∙ held (it.looks.kept.honest_before made.0) in
         inr (subst (After tables) (sym (made.1 ∙ ap (λ t. changed_by t it.decided.changes.items) same))
-        (after tables (it.reads.looks.tells (it.carried.writes.clean clean) tables held) made.2))
+        (after tables (it.looks.tells (it.carried.writes.clean clean) tables held) made.2))
   ]
 
 -- ---- one command

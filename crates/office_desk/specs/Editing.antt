@@ -1,10 +1,10 @@
 -- What an edit of a plan promises, of the shelf before and after it.
-use Rattle.std.specs.Prelude.{◌≡◌, ℕ, List, ⊤}
+use Rattle.std.specs.Prelude.{ℕ, List, ⊤}
 use Rattle.std.specs.FinMap.{get}
 use Rattle.office_desk.specs.{Running.IsDone, StandFor.StandForSound}
 use Rattle.office_desk_timing.specs.Revising.{EditsOffice, IsEditDecision}
 use Rattle.office_desk_timing.specs.declared.revising.PlanEdit.{PlanEdit}
-use Rattle.office_machine.specs.{Office.Office, declared.reply.Reply.Reply, declared.refusal.Refusal.TheVariants.Unavailable, declared.reply.Reply.TheVariants.Refused}
+use Rattle.office_machine.specs.{Office.Office, declared.reply.Reply.Reply}
 use Rattle.office_tables_shelf.specs.{Content.Content, declared.shelf.Shelf.Ghosts}
 
 -- tables that stand for the office after an edit of it, whichever sound office the old ones stand for
@@ -15,4 +15,4 @@ AfterEdit id clerk edit old found = (office : Office) → StandForSound old offi
 -- A PLAN WAS EDITED: all of its steps took effect, or none; and the rows that were written are those of the edit
 abbrev pub EditsPlan : {S : Type 0} → Ghosts S → (id : ℕ) → (clerk : List ℕ) → PlanEdit → Reply → (old new : S) → Type 0
 EditsPlan g id clerk edit =
-    IsDone g (λ tables decided. IsEditDecision ⊤ tables id clerk edit decided.reply decided.changes.items) (λ decided. decided.reply ≡ Refused Unavailable)
+    IsDone g (λ tables decided. IsEditDecision ⊤ tables id clerk edit decided.reply decided.changes.items)

@@ -12,7 +12,6 @@ use Rattle.office_desk.specs.Answers.{AnswersAny, EndsIn}
 use Rattle.office_desk.specs.Asks.{OnlyLooks, TellsTables}
 use Rattle.office_desk.specs.Changes.{IsQueryCommand, IsRefused, most_writes}
 use Rattle.office_desk.specs.Damage.{MeetsDamage}
-use Rattle.office_desk.specs.Deciding.{DecidesIdly}
 use Rattle.office_desk.specs.Named.{IsNamedFor}
 use Rattle.office_machine.specs.Office.{Office, IsSound, side_at}
 use Rattle.office_machine.specs.Step.{AreSound, Run}
@@ -78,21 +77,16 @@ pub record CarriesOut {S : Type 0} (g : Ghosts S) (decided : Decided) (reply : R
   pub writes : WritesRows g decided.changes.items made old new
   pub told : reply ≡ reply_made made decided.reply
 
--- What was asked was decided by reads alone. Where a failure has shut the database, the decision is idle: it needs no table.
-pub record IsDecided {S : Type 0} (g : Ghosts S) (Decides : Content → Decided → Type 0) (Idle : Decided → Type 0) (decided : Decided) (old new : S) : Type 0 where
-  pub looks : OnlyLooks g old new (λ tables. Decides tables decided)
-  pub shut : g.is_clean new → g.is_honest new ⊎ Idle decided
-
--- WHAT WAS ASKED IS DONE, all of it or none: it was decided, and then carried out
-pub record IsDone {S : Type 0} (g : Ghosts S) (Decides : Content → Decided → Type 0) (Idle : Decided → Type 0) (reply : Reply) (old new : S) : Type 0 where
+-- WHAT WAS ASKED IS DONE, all of it or none: it was decided by reads alone, and then carried out
+pub record IsDone {S : Type 0} (g : Ghosts S) (Decides : Content → Decided → Type 0) (reply : Reply) (old new : S) : Type 0 where
   pub decided : Decided
   pub mid : S
-  pub reads : IsDecided g Decides Idle decided old mid
+  pub looks : OnlyLooks g old mid (λ tables. Decides tables decided)
   pub carried : CarriesOut g decided reply mid new
 
 -- a command was run
 abbrev pub IsRun : {S : Type 0} → Ghosts S → Command → Reply → (old new : S) → Type 0
-IsRun g command = IsDone g (λ tables. IsAnswered tables command) (DecidesIdly command)
+IsRun g command = IsDone g (λ tables. IsAnswered tables command)
 
 -- ---- what was done
 

@@ -9,9 +9,8 @@ ghost use Rattle.office_tables_shelf.specs.OpenOrders.{orders_in};
 ghost use Rattle.office_desk.specs.Asks.{Gives, OnlyLooks};
 ghost use Rattle.office_desk.specs.Checking.{Checks};
 ghost use Rattle.office_desk.specs.Damage.{MeetsDamage, MeetsImportDamage};
-ghost use Rattle.office_desk.specs.Deciding.{DecidesIdly};
 ghost use Rattle.office_desk.specs.Editing.{EditsPlan};
-ghost use Rattle.office_desk.specs.Running.{CarriesOut, IsAnswered, IsDecided, IsRun, MakesTables, RunsAny, WritesRows};
+ghost use Rattle.office_desk.specs.Running.{CarriesOut, IsAnswered, IsRun, MakesTables, RunsAny, WritesRows};
 ghost use Rattle.office_desk.specs.StandFor.{StandForSound};
 ghost use Rattle.office_desk_timing.specs.Listing.{ListsEachIntersection};
 ghost use Rattle.office_machine.specs.Listed.{intersections_of};
@@ -85,8 +84,8 @@ impl<S: Shelf> Office<S> {
     /// memory or the shelf refuses, the reply is Unavailable; where a stored row that the command
     /// reads is no record, Damaged.
     pub fn decide(&mut self, alloc: Global, command: &Command) -> Decided
-        ensures { IsDecided S.Shelf (λ tables. IsAnswered tables command.now)
-            (DecidesIdly command.now) result self.old self.new }
+        ensures { OnlyLooks S.Shelf self.old self.new
+            (λ tables. IsAnswered tables command.now result) }
     {
         or_refusal(alloc, try_decide(&mut self.shelf, alloc, command))
     }

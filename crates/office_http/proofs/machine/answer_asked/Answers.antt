@@ -10,7 +10,7 @@ use Rattle.office_http.proofs.machine.answer_asked.Goals as goal
 -- nothing was changed, since the answer found no memory or the tables were refused
 pub returns-in_default-clause-deals : goal.returns-in_default-clause-deals
 returns-in_default-clause-deals g c clean before tables request is_read keeps =
-    let kept = c.decide-decided.ensures.looks.kept in
+    let kept = c.decide-decided.ensures.kept in
     deals_refused g.S.Shelf.is_honest g.S.Shelf.content g.S.Shelf.written g.S.Shelf.may_leave tables before request keeps.stands c.args.office.now c.decide-decided.new.self _
     (λ honest. kept.same_content honest ∙ keeps.held (kept.honest_before honest)) kept.same_counts (λ left may. inl (kept.same_outcomes left may))
 
@@ -18,8 +18,8 @@ returns-in_default-clause-deals g c clean before tables request is_read keeps =
 pub returns-in-Ok-apply-clause-deals : goal.returns-in-Ok-apply-clause-deals
 returns-in-Ok-apply-clause-deals g c clean before tables request is_read keeps =
     let storage = office_storage g.S.Shelf.is_honest g.S.Shelf.content g.S.Shelf.written g.S.Shelf.may_leave in
-    let kept = c.decide-decided.ensures.looks.kept in
-    let is = c.decide-decided.ensures.looks.tells (c.apply.ensures.clean clean) tables keeps.held in
+    let kept = c.decide-decided.ensures.kept in
+    let is = c.decide-decided.ensures.tells (c.apply.ensures.clean clean) tables keeps.held in
     let value = c.as_slice.ensures.value in
     elim (none_or_some c.decide-decided.result.changes.items) [
       | inl none ↦
@@ -41,8 +41,8 @@ returns-in-Ok-apply-clause-deals g c clean before tables request is_read keeps =
 -- refused, the changes may stand all the same after a crash
 pub returns-clause-deals : goal.returns-clause-deals
 returns-clause-deals g c clean before tables request is_read keeps =
-    let kept = c.decide-decided.ensures.looks.kept in
-    let is = c.decide-decided.ensures.looks.tells (c.apply.ensures.clean clean) tables keeps.held in
+    let kept = c.decide-decided.ensures.kept in
+    let is = c.decide-decided.ensures.tells (c.apply.ensures.clean clean) tables keeps.held in
     deals_refused g.S.Shelf.is_honest g.S.Shelf.content g.S.Shelf.written g.S.Shelf.may_leave tables before request keeps.stands c.args.office.now c.apply.new.self _
     (λ honest.
     let read = c.apply.ensures.honest honest in
