@@ -1,17 +1,15 @@
 -- From an edit that was decided to one that was made, or not.
-use Rattle.std.proofs.Common.{◌≡◌, ◌⊎◌, List, [], ℕ, Result, Ok, Err, refl, inl, inr}
+use Rattle.std.proofs.Common.{◌≡◌, List, [], ℕ, Result, Ok, Err, refl, inl, inr}
 use Rattle.std.specs.Prelude.{⊤}
 use Rattle.draft_core.specs.declared.timing.Reach.TheVariants.{Plan}
-use Rattle.office_desk.specs.{Asks.OnlyLooks, Damage.HasDamageIn, Editing.AfterEdit, Editing.EditsPlan, Running.MakesTables, Running.StopLeaves, Running.WasAnswered, Running.reply_made, Running.rows_made}
-use Rattle.office_desk.proofs.{Answering.IsTold, Looks.looks_any, Looks.looks_open, Runs.done_makes, Runs.done_stops}
-use Rattle.office_desk_timing.specs.Revising.{AnswersAnyEdit, DecidesEdit, IsEditDecision}
-use Rattle.office_desk_timing.specs.declared.revising.PlanEdit.{PlanEdit}
+use Rattle.office_desk.specs.{Asks.OnlyLooks, Damage.HasDamageIn, Editing.AfterEdit, Editing.EditsPlan, Running.MakesTables, Running.StopLeaves, Running.WasAnswered}
+use Rattle.office_desk.proofs.{Answering.IsTold, Looks.looks_any, Looks.looks_open, Runs.done_makes, Runs.done_stops, Runs.was_answered}
+use Rattle.office_desk_timing.specs.{Revising.AnswersAnyEdit, Revising.DecidesEdit, Revising.IsEditDecision, declared.revising.PlanEdit.PlanEdit}
 use Rattle.office_desk_timing.proofs.{Revisions.told, Stands.no_damage}
 use Rattle.office_machine.specs.declared.{reply.Reply.Reply, reply.Reply.TheVariants.Refused}
-use Rattle.office_machine.specs.declared.refusal.Refusal.TheVariants as refusal
 use Rattle.office_tables_decisions.specs.{Reads.OnlyReads, declared.decided.Decided.Decided}
-use Rattle.office_tables_shelf.specs.{Change.changed_by, Content.Content, declared.rows.RowChange.RowChange, declared.shelf.Shelf.Ghosts, declared.shelf.ShelfFault.ShelfFault}
-use Rattle.office_tables_shelf.specs.declared.shelf.ShelfFault.TheVariants.{Damaged}
+use Rattle.office_tables_shelf.specs.{Change.changed_by, Content.Content, declared.shelf.Shelf.Ghosts, declared.shelf.ShelfFault.ShelfFault, declared.shelf.ShelfFault.TheVariants.Damaged}
+use Rattle.office_machine.specs.declared.refusal.Refusal.TheVariants as refusal
 
 module _ (id : ℕ) (clerk : List ℕ) (edit : PlanEdit) where
   -- an edit that was decided, on these tables
@@ -43,11 +41,6 @@ module _ (id : ℕ) (clerk : List ℕ) (edit : PlanEdit) where
   edit_look g (Err _) given old new reads is decides = looks_any reads.kept reads.clean_before
       (λ tables. rw (is.0, is.1) (told ⊤ tables id clerk edit _ (λ side. refl) (λ moved. moved) (λ e. cc) (λ _. unavailable_edit tables)))
 
-  was_edited : (tables : Content) (decided : Decided) (made : Result Unit ShelfFault) → Decides tables decided
-      → WasAnswered (λ before. AnswersAnyEdit before id clerk edit) (λ before. HasDamageIn Plan before id) tables (reply_made made decided.reply) (changed_by tables (rows_made made decided.changes.items))
-  was_edited tables decided (Ok made) is = record { step = is.step tt; damaged = λ said. is.damaged said tt }
-  was_edited tables decided (Err why) is = record { step = unavailable_edit tables; damaged = λ said. absurd cc }
-
   after_edit : (tables : Content) (decided : Decided) → Decides tables decided → (decided.changes.items ≡ [] → ⊥) → AfterEdit id clerk edit tables (changed_by tables decided.changes.items)
   after_edit tables decided is some office stands =
       let answer = is.step tt office stands in (
@@ -59,7 +52,8 @@ module _ (id : ℕ) (clerk : List ℕ) (edit : PlanEdit) where
 
   module _ {S : Type 0} {g : Ghosts S} {reply : Reply} {old new : S} (it : EditsPlan g id clerk edit reply old new) where
     pub edit_makes : MakesTables g old new (λ tables. WasAnswered (λ before. AnswersAnyEdit before id clerk edit) (λ before. HasDamageIn Plan before id) tables reply)
-    edit_makes = done_makes it _ (λ tables is. rw it.carried.told (was_edited tables it.decided it.carried.made is))
+    edit_makes = done_makes it _ (λ tables is.
+        rw it.carried.told (was_answered _ _ tables it.decided it.carried.made (is.step tt) (unavailable_edit tables) (λ said. is.damaged said tt)))
 
     pub edit_stops : StopLeaves g old new (AfterEdit id clerk edit)
     edit_stops = done_stops it _ (λ tables. after_edit tables it.decided)

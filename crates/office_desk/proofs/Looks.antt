@@ -1,13 +1,11 @@
 -- What a read gives, from the shelf on; and reads one after another.
-use Rattle.std.proofs.Common.{◌≡◌, ◌⊎◌, ◌∙◌, Result, Ok, Err, IsErrAnd, ap, inl, inr, refl, subst, sym}
+use Rattle.std.proofs.Common.{◌≡◌, ◌⊎◌, ◌∙◌, Result, Ok, Err, IsErrAnd, ap, inl, inr, refl, subst}
 use Rattle.std.specs.Prelude.{IfOk, MatchResult}
-use Rattle.office_desk.specs.{Asks.Gives, Asks.HoldsTables, Asks.IsReply, Asks.KeepsOffice, Asks.OnlyLooks, Asks.ReadsOffice, Changes.IsQueryCommand, Running.IsAnswered}
+use Rattle.office_desk.specs.{Asks.Gives, Asks.HoldsTables, Asks.KeepsOffice, Asks.OnlyLooks, Asks.ReadsOffice, Changes.IsQueryCommand, Running.IsAnswered}
 use Rattle.office_desk_timing.specs.Decisions.{refusal_of}
-use Rattle.office_machine.specs.declared.{command.Command.Command, refusal.Refusal.Refusal, reply.Reply.Reply, reply.Reply.TheVariants.Refused}
-use Rattle.office_machine.specs.declared.refusal.Refusal.TheVariants.{Damaged, Unavailable}
+use Rattle.office_machine.specs.declared.{command.Command.Command, refusal.Refusal.Refusal, refusal.Refusal.TheVariants.Unavailable}
 use Rattle.office_tables_decisions.specs.{Reads.Reports, declared.decided.Decided.Decided}
-use Rattle.office_tables_shelf.specs.{Content.Content, Keeps.KeepsShelf, Shelf.IsTold, declared.shelf.Shelf.Ghosts, declared.shelf.ShelfFault.ShelfFault}
-use Rattle.office_tables_shelf.specs.declared.shelf.ShelfFault.TheVariants.{Damaged as StoredDamaged}
+use Rattle.office_tables_shelf.specs.{Content.Content, Keeps.KeepsShelf, Shelf.IsTold, declared.shelf.Shelf.Ghosts, declared.shelf.ShelfFault.ShelfFault, declared.shelf.ShelfFault.TheVariants.Damaged as StoredDamaged}
 use Rattle.office_tables_shelf.proofs.KeptLemmas.{kept_on}
 
 -- what an open database held, it holds after a look
@@ -103,11 +101,9 @@ module _ {S : Type 0} {g : Ghosts S} {old new : S} {A : Type 0} (read : Result A
 
   -- where what is told was read from an open database
   pub gives_looks : (g.is_clean new → IsTold read → g.is_honest new) → OnlyLooks g old new (λ tables. Gives result (More tables) (Meets tables))
-  gives_looks told = record {
-    kept = kept;
-    clean = clean_before;
-    tells = λ clean tables held. elim (gives _ _ _ read result is reports (more (g.content old))).1 [
-      | inl was ↦ gives_open.tells clean tables held (told clean was)
-      | inr not ↦ rw not (inl refl)
-    ];
-  }
+  gives_looks told =
+      let it = gives _ _ _ read result is reports (more (g.content old)) in
+      elim it.1 [
+        | inl was ↦ looks_open kept clean_before (λ clean. told clean was) it.0
+        | inr not ↦ looks_any kept clean_before (λ tables. rw not (inl refl))
+      ]

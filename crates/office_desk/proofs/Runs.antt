@@ -1,11 +1,10 @@
 -- From a decision to what was done, and from steps to runs.
-use Rattle.std.proofs.Common.{◌≡◌, ◌≢◌, ◌⊎◌, List, [], ◌∷◌, ◌++◌, ℕ, Result, Ok, Err, refl, ap, sym, subst, ◌∙◌, inl, inr}
-use Rattle.office_desk.specs.{Answers.AnswersAny, Answers.StandsAfterStep, Changes.IsRefused, Damage.MeetsDamage, StandFor.StandForSound}
-use Rattle.office_desk.specs.Running.{Answered, IsAnswered, IsDone, IsRun, MakesTables, Reaches, RunsAny, StopLeaves, reply_made, rows_made}
-use Rattle.office_desk.proofs.{Answering.idle_answers, RegisterLaws.runs_register, Repeats.runs_repeat, Street.keeps_the_street, TimingLaw.runs_timing}
-use Rattle.office_machine.specs.Step.{AreSound, Step, Run, answered}
-use Rattle.office_machine.specs.{Office.Office, Office.IsSound}
-use Rattle.office_machine.specs.declared.{command.Command.Command, reply.Reply.Reply, refusal.Refusal.TheVariants.Damaged, refusal.Refusal.TheVariants.Unavailable, reply.Reply.TheVariants.Refused}
+use Rattle.std.proofs.Common.{◌≡◌, ◌≢◌, ◌⊎◌, List, [], ◌∷◌, ◌++◌, Result, Ok, Err, refl, ap, sym, subst, ◌∙◌, inl, inr}
+use Rattle.office_desk.specs.{Answers.AnswersAny, Answers.StandsAfterStep, StandFor.StandForSound}
+use Rattle.office_desk.specs.Running.{Answered, IsAnswered, IsDone, IsRun, MakesTables, Reaches, RunsAny, StopLeaves, WasAnswered, reply_made, rows_made}
+use Rattle.office_desk.proofs.{Answering.unavailable_answers, RegisterLaws.runs_register, Repeats.runs_repeat, Street.keeps_the_street, TimingLaw.runs_timing}
+use Rattle.office_machine.specs.Step.{AreSound, Step, Run}
+use Rattle.office_machine.specs.{Office.Office, Office.IsSound, declared.command.Command.Command, declared.reply.Reply.Reply, declared.refusal.Refusal.TheVariants.Damaged, declared.refusal.Refusal.TheVariants.Unavailable, declared.reply.Reply.TheVariants.Refused}
 use Rattle.office_tables_decisions.specs.declared.decided.Decided.{Decided}
 use Rattle.office_tables_shelf.specs.{Change.changed_by, Content.Content, declared.rows.RowChange.RowChange, declared.shelf.Shelf.Ghosts, declared.shelf.ShelfFault.ShelfFault}
 
@@ -48,10 +47,11 @@ module _ {S : Type 0} {g : Ghosts S} {Decides : Content → Decided → Type 0} 
 
 -- ---- one command
 
-was_answered : (tables : Content) (command : Command) (decided : Decided) (made : Result Unit ShelfFault) → IsAnswered tables command decided
-    → Answered tables command (reply_made made decided.reply) (changed_by tables (rows_made made decided.changes.items))
-was_answered tables command decided (Ok made) is = record { step = is.step; damaged = is.damaged }
-was_answered tables command decided (Err why) is = record { step = idle_answers tables command _ (inl refl); damaged = λ told. absurd cc }
+pub was_answered : (Answers : Content → Reply → Content → Type 0) (Meets : Content → Type 0) (tables : Content) (decided : Decided) (made : Result Unit ShelfFault)
+    → Answers tables decided.reply (changed_by tables decided.changes.items) → Answers tables (Refused Unavailable) tables → (decided.reply ≡ Refused Damaged → Meets tables)
+    → WasAnswered Answers Meets tables (reply_made made decided.reply) (changed_by tables (rows_made made decided.changes.items))
+was_answered Answers Meets tables decided (Ok made) step unavailable meets = record { step = step; damaged = meets }
+was_answered Answers Meets tables decided (Err why) step unavailable meets = record { step = unavailable; damaged = λ told. absurd cc }
 
 -- the changes of an answer make the office after the command's own step
 after_step : (tables : Content) (command : Command) (decided : Decided) → IsAnswered tables command decided → decided.changes.items ≢ []
@@ -65,7 +65,8 @@ after_step tables command decided is some office stands =
 
 module _ {S : Type 0} {g : Ghosts S} {command : Command} {reply : Reply} {old new : S} (it : IsRun g command reply old new) where
   pub run_makes : MakesTables g old new (λ tables. Answered tables command reply)
-  run_makes = done_makes it _ (λ tables is. rw it.carried.told (was_answered tables command it.decided it.carried.made is))
+  run_makes = done_makes it _ (λ tables is.
+      rw it.carried.told (was_answered _ _ tables it.decided it.carried.made is.step (unavailable_answers tables command) is.damaged))
 
   pub run_stops : StopLeaves g old new (λ tables. StandsAfterStep tables command)
   run_stops = done_stops it _ (λ tables. after_step tables command it.decided)

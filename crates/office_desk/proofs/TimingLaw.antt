@@ -1,18 +1,15 @@
 -- Over a run of commands, a committed set is the draft just before its last accepted commit, or what it was at the start.
-use Rattle.std.proofs.Common.{◌≡◌, ℕ, Bool, true, false, List, [], ◌∷◌, Option, Some, None, Result, Ok, Err, cond, refl, ap, sym, subst, ◌∙◌, eq-eqb, ne_eqb}
+use Rattle.std.proofs.Common.{◌≡◌, ℕ, Bool, true, false, List, [], ◌∷◌, Option, Some, None, Ok, cond, refl, ap, sym, ◌∙◌, eq-eqb, ne_eqb}
 use Rattle.std.specs.{Prelude.◌&&◌, FinMap.get}
-use Rattle.signal_records.specs.TimingSet.{Rows}
+use Rattle.signal_records.specs.{TimingSet.Rows, declared.state.Stage.Stage}
 use Rattle.draft_core.specs.Transaction.{TimingSide, Draft, holder_of, owned, with_draft, begun_from, abandoned_from, table_line}
-use Rattle.draft_core.specs.declared.refusal.DraftRefusal.{DraftRefusal}
-use Rattle.draft_core.specs.declared.refusal.DraftRefusal.TheVariants.{NotNormal, NotTransaction}
-use Rattle.signal_records.specs.declared.state.Stage.{Stage}
+use Rattle.draft_core.specs.declared.{refusal.DraftRefusal.DraftRefusal, step.Step.Step as DraftStep, step.Step.TheVariants.Begin, step.Step.TheVariants.Commit, step.Step.TheVariants.Abandon}
 use Rattle.draft_core.proofs.Sound.{owned_inverts, committed_inverts}
-use Rattle.office_machine.specs.{Office.Office, Office.Intersection, Office.side_of, Office.side_at, Step.Step, Step.Run, Step.moved_to, Step.with_intersection, Step.new_intersection, Timing.is_commit_of, Timing.is_moved, Timing.set_of_draft, Timing.running_plan, declared.command.Command.Command, declared.reply.Reply.Reply}
-use Rattle.office_machine.specs.declared.command.Command.TheVariants as command
+use Rattle.office_machine.specs.{Office.Office, Office.Intersection, Office.side_at, Step.Run, Step.moved_to, Step.with_intersection, Step.new_intersection, Timing.is_commit_of, Timing.is_moved, Timing.set_of_draft, Timing.running_plan, declared.command.Command.Command, declared.reply.Reply.Reply}
 use Rattle.office_desk_timing.proofs.Stands.{same_id, other_id, side_after}
 use Rattle.office_desk.proofs.Walks.{HoldsOfEach, records_so, step_so}
 use Rattle.office_tables_decisions.specs.Asking.{asking_command}
-use Rattle.draft_core.specs.declared.step.{Step.Step as DraftStep, Step.TheVariants.Begin, Step.TheVariants.Commit, Step.TheVariants.Abandon}
+use Rattle.office_machine.specs.declared.command.Command.TheVariants as command
 
 -- ---- the lines of the table
 
@@ -30,11 +27,6 @@ abandoned_keeps : (side next : TimingSide) (held : Option Draft) → abandoned_f
 abandoned_keeps side next None e = absurd cc
 abandoned_keeps side next (Some draft) e = cc
 
-commit_takes : (clerk : List ℕ) (side next : TimingSide) (instead : Rows) → table_line Commit clerk side ≡ Ok next → next.committed ≡ set_of_draft side.draft instead
-commit_takes clerk side next instead e =
-    let made = committed_inverts side clerk next e in
-    rw made.1 (ap (λ (s : TimingSide). s.committed) made.2.becomes)
-
 -- what the set is after a step: the draft, where it is committed
 abbrev set_after : DraftStep → TimingSide → Rows
 set_after Commit side = set_of_draft side.draft side.committed
@@ -43,7 +35,9 @@ set_after _ side = side.committed
 step_keeps : (step : DraftStep) (clerk : List ℕ) (side next : TimingSide) → table_line step clerk side ≡ Ok next
     → next.committed ≡ set_after step side
 step_keeps Begin clerk side next e = begun_keeps clerk side next side.draft e
-step_keeps Commit clerk side next e = commit_takes clerk side next side.committed e
+step_keeps Commit clerk side next e =
+    let made = committed_inverts side clerk next e in
+    rw made.1 (ap (λ (s : TimingSide). s.committed) made.2.becomes)
 step_keeps Abandon clerk side next e = abandoned_keeps side next side.draft e
 step_keeps _ clerk side next e = owned_keeps _ _ clerk _ side next e
 

@@ -1,16 +1,16 @@
 -- In tables that stand for a sound office no row is damaged that a command reads.
-use Rattle.std.proofs.Common.{◌⊎◌, ℕ, List, [], ◌∷◌, Option, Some, None, inl, inr, ⊎_elim}
+use Rattle.std.proofs.Common.{ℕ, List, [], ◌∷◌, Option, Some, None, inl, inr, ⊎_elim}
 use Rattle.cabinet_core.specs.declared.command.RecordCommand.{RecordCommand}
 use Rattle.draft_core.specs.declared.timing.Reach.{Reach}
-use Rattle.draft_core.specs.declared.timing.Reach.TheVariants as reach
 use Rattle.office_desk.specs.Damage.{HasDamageIn, MeetsAfter, MeetsCabinetDamage, MeetsDamage, MeetsImportDamage}
 use Rattle.office_desk.specs.StandFor.{StandForSound}
 use Rattle.office_desk_cabinet.proofs.Undamaged.{no_damaged_inspection, no_damaged_inspections, no_damaged_order, no_damaged_used, no_damaged_part, undamaged_record}
 use Rattle.office_desk_timing.proofs.{IntersectionTable.no_damaged_intersection, Stands.no_damage, Stands.no_damaged_timing}
 use Rattle.office_desk.proofs.Recorded.{register_of}
 use Rattle.office_machine.specs.{Office.Office, Step.cabinet_of, declared.command.Command.Command}
-use Rattle.office_machine.specs.declared.command.Command.TheVariants as command
 use Rattle.office_tables_shelf.specs.{Content.Content, RegisterStands.RegisterStandsSound}
+use Rattle.draft_core.specs.declared.timing.Reach.TheVariants as reach
+use Rattle.office_machine.specs.declared.command.Command.TheVariants as command
 
 module _ (tables : Content) (office : Office) (stands : StandForSound tables office) where
   registered : RegisterStandsSound tables office.register

@@ -4,19 +4,15 @@ use Rattle.std.proofs.Common.{◌≡◌, ℕ, ◌+◌, Bool, true, false, ◌==�
 use Rattle.std.proofs.lemmas.Bool.{cond_both}
 use Rattle.std.specs.{FinMap.get, Str.bytes_eq}
 use Rattle.cabinet_core.specs.Cabinet.{Line, added as added_line, same as same_line, refused as refused_line}
-use Rattle.cabinet_core.specs.{Step.line_at, Step.with_record, Step.after_line, Orders.open_at}
-use Rattle.cabinet_core.specs.declared.command.RecordCommand.{RecordCommand}
-use Rattle.draft_core.specs.{Transaction.Draft, Transaction.TimingSide, Transaction.table_line, declared.refusal.DraftRefusal.DraftRefusal}
-use Rattle.draft_core.specs.declared.step.Step.{Step as DraftStep}
+use Rattle.cabinet_core.specs.{Step.line_at, Step.with_record, Step.after_line, declared.command.RecordCommand.RecordCommand}
+use Rattle.draft_core.specs.{Transaction.TimingSide, Transaction.table_line, declared.step.Step.Step as DraftStep}
+use Rattle.office_machine.specs.Step.{Step, answered, add_step, new_intersection, with_intersection, transacted, moved, moved_to, shown, draft_shown, reply_of, record_step, recorded_at, step_if_known, cabinet_of, is_known, with_recorded, import_by, import_from, import_step}
+use Rattle.office_machine.specs.{Office.Office, Office.Intersection, RegisterRuns.accepted_of, Timing.is_moved, declared.command.Command.Command, declared.refusal.Refusal.Refusal, declared.reply.Reply.Reply}
+use Rattle.office_tables_decisions.specs.Asking.{asking_command}
 use Rattle.draft_core.specs.declared.step.Step.TheVariants as step
-use Rattle.office_machine.specs.Step.{Step, answered, add_step, new_intersection, with_intersection, transacted, moved, moved_to, shown, state_shown, timing_shown, draft_shown, reply_of, record_step, recorded_at, step_if_known, cabinet_of, is_known, with_recorded, import_by, import_from, import_step, cabinet_shown}
-use Rattle.office_machine.specs.{Office.Office, Office.Intersection, RegisterRuns.accepted_of, RegisterRuns.is_accepted, RegisterRuns.records_asked}
-use Rattle.office_machine.specs.Timing.{is_moved}
-use Rattle.office_machine.specs.declared.{command.Command.Command, refusal.Refusal.Refusal, reply.Reply.Reply}
 use Rattle.office_machine.specs.declared.command.Command.TheVariants as command
 use Rattle.office_machine.specs.declared.refusal.Refusal.TheVariants as refusal
 use Rattle.office_machine.specs.declared.reply.Reply.TheVariants as reply
-use Rattle.office_tables_decisions.specs.Asking.{asking_command}
 
 -- ---- one command
 

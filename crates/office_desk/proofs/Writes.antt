@@ -2,14 +2,13 @@
 use Rattle.std.proofs.Common.{◌≡◌, ◌≤◌, ◌+◌, ℕ, List, [], ◌∷◌, cond, arith}
 use Rattle.std.proofs.lemmas.Bool.Decides.{nat_tests}
 use Rattle.cabinet_core.specs.declared.command.RecordCommand.{RecordCommand}
-use Rattle.cabinet_core.specs.declared.command.RecordCommand.TheVariants as register
 use Rattle.office_tables_shelf.specs.Counts.{count_of, count_at, counts_after, is_same_table, writes_in}
-use Rattle.office_tables_shelf.specs.{Change.row_writes, Change.table_of, Content.Content}
-use Rattle.office_tables_shelf.specs.declared.{counts.WriteCounts.WriteCounts, rows.RowChange.RowChange, rows.Table.Table}
-use Rattle.office_tables_shelf.specs.declared.rows.Table.TheVariants as table
+use Rattle.office_tables_shelf.specs.{Change.row_writes, Change.table_of, Content.Content, declared.counts.WriteCounts.WriteCounts, declared.rows.RowChange.RowChange, declared.rows.Table.Table}
 use Rattle.office_tables_decisions.specs.RecordBounds.{most_record_writes}
 use Rattle.office_desk.specs.Changes.{RiseAtMost, most_import_writes, most_writes}
 use Rattle.office_machine.specs.declared.command.Command.{Command}
+use Rattle.cabinet_core.specs.declared.command.RecordCommand.TheVariants as register
+use Rattle.office_tables_shelf.specs.declared.rows.Table.TheVariants as table
 use Rattle.office_machine.specs.declared.command.Command.TheVariants as command
 
 -- a write raises the count of its table alone

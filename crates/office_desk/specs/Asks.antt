@@ -1,16 +1,8 @@
 -- What a call that only asks an office promises.
 use Rattle.std.specs.Prelude.{◌≡◌, ◌⊎◌, Result, Ok, Err, ⊤}
-use Rattle.office_desk.specs.Answers.{AnswersAny}
-use Rattle.office_desk.specs.Damage.{MeetsDamage}
-use Rattle.office_desk.specs.Named.{IsNamedFor}
-use Rattle.office_machine.specs.declared.command.Command.{Command}
-use Rattle.office_machine.specs.declared.refusal.Refusal.{Refusal}
-use Rattle.office_machine.specs.declared.refusal.Refusal.TheVariants.{Damaged, Unavailable}
-use Rattle.office_machine.specs.declared.reply.Reply.{Reply}
-use Rattle.office_machine.specs.declared.reply.Reply.TheVariants.{Refused}
-use Rattle.office_tables_shelf.specs.Content.{Content}
-use Rattle.office_tables_shelf.specs.Keeps.{KeepsShelf}
-use Rattle.office_tables_shelf.specs.declared.shelf.Shelf.{Ghosts}
+use Rattle.office_desk.specs.{Answers.AnswersAny, Damage.MeetsDamage, Named.IsNamedFor}
+use Rattle.office_machine.specs.declared.{command.Command.Command, refusal.Refusal.Refusal, refusal.Refusal.TheVariants.Damaged, refusal.Refusal.TheVariants.Unavailable, reply.Reply.Reply, reply.Reply.TheVariants.Refused}
+use Rattle.office_tables_shelf.specs.{Content.Content, Keeps.KeepsShelf, declared.shelf.Shelf.Ghosts}
 
 -- where its database is open, the shelf holds these tables
 abbrev pub HoldsTables : {S : Type 0} → Ghosts S → S → Content → Type 0

@@ -2,8 +2,7 @@
 use Rattle.std.specs.Prelude.{ℕ, List, ⊤}
 use Rattle.std.specs.FinMap.{get}
 use Rattle.office_desk.specs.{Running.IsDone, StandFor.StandForSound}
-use Rattle.office_desk_timing.specs.Revising.{EditsOffice, IsEditDecision}
-use Rattle.office_desk_timing.specs.declared.revising.PlanEdit.{PlanEdit}
+use Rattle.office_desk_timing.specs.{Revising.EditsOffice, Revising.IsEditDecision, declared.revising.PlanEdit.PlanEdit}
 use Rattle.office_machine.specs.{Office.Office, declared.reply.Reply.Reply}
 use Rattle.office_tables_shelf.specs.{Content.Content, declared.shelf.Shelf.Ghosts}
 

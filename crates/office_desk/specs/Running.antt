@@ -1,29 +1,9 @@
 -- What running commands promises, of the shelf before and after them.
 use Rattle.std.specs.Prelude.{◌≡◌, ◌≢◌, ◌≤◌, ◌⊎◌, ℕ, List, [], Result, Ok, Err}
-use Rattle.office_tables_shelf.specs.Change.{AddNew, changed_by}
-use Rattle.office_tables_shelf.specs.Content.{Content}
-use Rattle.office_tables_shelf.specs.Counts.{counts_after, writes_in}
-use Rattle.office_tables_shelf.specs.declared.rows.RowChange.{RowChange}
-use Rattle.office_tables_shelf.specs.declared.rows.Table.{Table}
-use Rattle.office_tables_shelf.specs.declared.shelf.Shelf.{Ghosts}
-use Rattle.office_tables_shelf.specs.declared.shelf.ShelfFault.{ShelfFault}
-use Rattle.office_tables_shelf.specs.declared.shelf.ShelfFault.TheVariants.{Damaged as ShelfDamaged}
-use Rattle.office_desk.specs.Answers.{AnswersAny, EndsIn}
-use Rattle.office_desk.specs.Asks.{OnlyLooks, TellsTables}
-use Rattle.office_desk.specs.Changes.{IsQueryCommand, IsRefused, most_writes}
-use Rattle.office_desk.specs.Damage.{MeetsDamage}
-use Rattle.office_desk.specs.Named.{IsNamedFor}
-use Rattle.office_machine.specs.Office.{Office, IsSound, side_at}
-use Rattle.office_machine.specs.Step.{AreSound, Run}
-use Rattle.office_machine.specs.Timing.{running_plan}
-use Rattle.office_machine.specs.RegisterRuns.{RegisterRuns}
-use Rattle.office_machine.specs.Repeats.{Repeats}
-use Rattle.office_machine.specs.declared.command.Command.{Command}
-use Rattle.office_machine.specs.declared.refusal.Refusal.TheVariants.{Damaged, Unavailable}
-use Rattle.office_machine.specs.declared.reply.Reply.{Reply}
-use Rattle.office_machine.specs.declared.reply.Reply.TheVariants.{Refused}
-use Rattle.office_tables_decisions.specs.declared.decided.Decided.{Decided}
-use Rattle.office_tables_decisions.specs.StandFor.{StandForSound}
+use Rattle.office_tables_shelf.specs.{Change.AddNew, Change.changed_by, Content.Content, Counts.counts_after, Counts.writes_in, declared.rows.RowChange.RowChange, declared.rows.Table.Table, declared.shelf.Shelf.Ghosts, declared.shelf.ShelfFault.ShelfFault, declared.shelf.ShelfFault.TheVariants.Damaged as ShelfDamaged}
+use Rattle.office_desk.specs.{Answers.AnswersAny, Answers.EndsIn, Asks.OnlyLooks, Asks.TellsTables, Changes.IsQueryCommand, Changes.IsRefused, Changes.most_writes, Damage.MeetsDamage, Named.IsNamedFor}
+use Rattle.office_machine.specs.{Office.Office, Office.IsSound, Office.side_at, Step.AreSound, Step.Run, Timing.running_plan, RegisterRuns.RegisterRuns, Repeats.Repeats, declared.command.Command.Command, declared.refusal.Refusal.TheVariants.Damaged, declared.refusal.Refusal.TheVariants.Unavailable, declared.reply.Reply.Reply, declared.reply.Reply.TheVariants.Refused}
+use Rattle.office_tables_decisions.specs.{declared.decided.Decided.Decided, StandFor.StandForSound}
 use Rattle.signal_plans.specs.StreetLaws.{StreetLaws}
 
 -- Where the disk has returned what was written, this holds of the tables that the database held before (any tables, if it was shut) and of some that were

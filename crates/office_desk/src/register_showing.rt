@@ -43,8 +43,7 @@ pub(crate) fn decide_open_orders<S: Shelf>(
         (Command.OpenOrders id) result }
     ensures reads { OnlyReads S.Shelf ⊤ result shelf.old shelf.new }
 {
-    let known = is_known(shelf, alloc, Some(id))?;
-    if !known {
+    if !is_known(shelf, alloc, Some(id))? {
         return Ok(Decided::from_refusal(alloc, Refusal::UnknownIntersection));
     }
     let list = open_orders(shelf, alloc, id)?;
