@@ -31,10 +31,6 @@ unwritten command decided said is none tables answers named damaged = record {
   damaged = rw is damaged;
 }
 
-asks_nothing : (command : Command) → (command ≡ Import []) ⊎ (command ≢ Import [])
-asks_nothing (Import []) = inl refl
-asks_nothing _ = inr (λ e. cc)
-
 -- what was decided, or the refusal of a fault
 abbrev pub IsTold : Result Decided ShelfFault → Decided → Type 0
 IsTold read given = MatchResult read (λ decided. given ≡ decided) (λ fault. (given.reply ≡ Refused (refusal_of fault)) × (given.changes.items ≡ []))
@@ -42,21 +38,19 @@ IsTold read given = MatchResult read (λ decided. given ≡ decided) (λ fault. 
 -- a command is answered so on a shelf that was only read
 pub decided_look : {S : Type 0} (g : Ghosts S) (command : Command) (read : Result Decided ShelfFault) (given : Decided) (old new : S) → OnlyReads g (command ≢ Import []) read old new → IsTold read given
     → Decides (g.is_honest new) (g.content old) command read → (command ≡ Import [] → IsOkAnd read AddsNothing) → OnlyLooks g old new (λ tables. IsAnswered tables command given)
-decided_look g command (Ok decided) given old new reads is decides nothing = elim (asks_nothing command) [
-  | inl none ↦
-      let it = nothing none in
-      looks_any reads.kept reads.clean_before (λ tables. unwritten command given (Imported 0 0) (rw is it.0) (rw is it.1) tables
-      (λ office stands. rw none (record { next = office; step = inr refl; stand = stands })) (λ why said. absurd cc) (λ said. absurd cc))
-  | inr some ↦ looks_open reads.kept reads.clean_before (λ clean. reads.read some clean tt) (λ honest. rw is (record {
-    step = decides.step honest;
-    writes = decides.writes honest;
-    news = decides.news honest;
-    refused = decides.refused;
-    query = decides.query;
-    named = λ why told. inr (inr (decides.named why told));
-    damaged = λ told. absurd (decides.undamaged told);
-  }))
-]
+decided_look g (Import []) (Ok decided) given old new reads is decides nothing =
+    let it = nothing refl in
+    looks_any reads.kept reads.clean_before (λ tables. unwritten (Import []) given (Imported 0 0) (rw is it.0) (rw is it.1) tables
+    (λ office stands. record { next = office; step = inr refl; stand = stands }) (λ why said. absurd cc) (λ said. absurd cc))
+decided_look g command (Ok decided) given old new reads is decides nothing = looks_open reads.kept reads.clean_before (λ clean. reads.read (λ e. cc) clean tt) (λ honest. rw is (record {
+  step = decides.step honest;
+  writes = decides.writes honest;
+  news = decides.news honest;
+  refused = decides.refused;
+  query = decides.query;
+  named = λ why told. inr (inr (decides.named why told));
+  damaged = λ told. absurd (decides.undamaged told);
+}))
 decided_look g command (Err Damaged) given old new reads is decides nothing =
     looks_open reads.kept reads.clean_before (λ clean. reads.read nothing clean refl) (λ honest.
     let meets = decides refl honest in

@@ -3,8 +3,7 @@ use Rattle.std.proofs.Common.{◌≡◌, ◌≢◌, ◌⊎◌, List, [], ◌∷�
 use Rattle.office_desk.specs.{Answers.AnswersAny, Answers.StandsAfterStep, StandFor.StandForSound}
 use Rattle.office_desk.specs.Running.{Answered, IsAnswered, IsDone, IsRun, MakesTables, Reaches, RunsAny, StopLeaves, WasAnswered, reply_made, rows_made}
 use Rattle.office_desk.proofs.{Answering.unavailable_answers, RegisterLaws.runs_register, Repeats.runs_repeat, Street.keeps_the_street, TimingLaw.runs_timing}
-use Rattle.office_machine.specs.Step.{AreSound, Step, Run}
-use Rattle.office_machine.specs.{Office.Office, Office.IsSound, declared.command.Command.Command, declared.reply.Reply.Reply, declared.refusal.Refusal.TheVariants.Damaged, declared.refusal.Refusal.TheVariants.Unavailable, declared.reply.Reply.TheVariants.Refused}
+use Rattle.office_machine.specs.{Step.AreSound, Step.Step, Step.Run, Office.Office, Office.IsSound, declared.command.Command.Command, declared.reply.Reply.Reply, declared.refusal.Refusal.TheVariants.Damaged, declared.refusal.Refusal.TheVariants.Unavailable, declared.reply.Reply.TheVariants.Refused}
 use Rattle.office_tables_decisions.specs.declared.decided.Decided.{Decided}
 use Rattle.office_tables_shelf.specs.{Change.changed_by, Content.Content, declared.rows.RowChange.RowChange, declared.shelf.Shelf.Ghosts, declared.shelf.ShelfFault.ShelfFault}
 

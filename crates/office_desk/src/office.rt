@@ -1,21 +1,11 @@
 //! The office over a shelf: it decides and runs commands, and answers what pages and files ask.
 ghost use Rattle.std.specs.Prelude.{◌≡◌, ℕ, ◌<◌, ◌≤◌, ◌+◌, [], ◌∷◌, ◌++◌, filter, map, take, IfOk, OnErr, vec_len, vec_capacity};
-ghost use Rattle.cabinet_core.specs.Orders.{is_open};
-ghost use Rattle.cabinet_core.specs.Overdue.{listed_of};
-ghost use Rattle.cabinet_core.specs.Register.{records_at};
-ghost use Rattle.office_tables_shelf.specs.CabinetReads.{HasAnyDamagedOrder};
-ghost use Rattle.office_tables_shelf.specs.Damage.{HasAnyDamagedIntersection};
-ghost use Rattle.office_tables_shelf.specs.OpenOrders.{orders_in};
-ghost use Rattle.office_desk.specs.Asks.{Gives, OnlyLooks};
-ghost use Rattle.office_desk.specs.Checking.{Checks};
-ghost use Rattle.office_desk.specs.Damage.{MeetsDamage, MeetsImportDamage};
-ghost use Rattle.office_desk.specs.Editing.{EditsPlan};
+ghost use Rattle.cabinet_core.specs.{Orders.is_open, Overdue.listed_of, Register.records_at};
+ghost use Rattle.office_tables_shelf.specs.{CabinetReads.HasAnyDamagedOrder, Damage.HasAnyDamagedIntersection, OpenOrders.orders_in};
+ghost use Rattle.office_desk.specs.{Asks.Gives, Asks.OnlyLooks, Checking.Checks, Damage.MeetsDamage, Damage.MeetsImportDamage, Editing.EditsPlan, StandFor.StandForSound};
 ghost use Rattle.office_desk.specs.Running.{CarriesOut, IsAnswered, IsRun, MakesTables, RunsAny, WritesRows};
-ghost use Rattle.office_desk.specs.StandFor.{StandForSound};
 ghost use Rattle.office_desk_timing.specs.Listing.{ListsEachIntersection};
-ghost use Rattle.office_machine.specs.Listed.{intersections_of};
-ghost use Rattle.office_machine.specs.Office.{Office as OfficeState};
-ghost use Rattle.office_machine.specs.Step.{overdue_on};
+ghost use Rattle.office_machine.specs.{Listed.intersections_of, Office.Office as OfficeState, Step.overdue_on};
 
 use crate::checking::{Checked, check_records};
 use crate::deciding::{or_refusal, shelf_refusal, try_decide};
