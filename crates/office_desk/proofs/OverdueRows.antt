@@ -1,18 +1,19 @@
 -- The intersections that were read, and what is known of their inspections, are those of the office.
-use Rattle.std.proofs.Common.{◌≡◌, ◌≤◌, ℕ, List, [], ◌∷◌, map, length, take, None, Some, refl, ap, ◌∙◌, arith}
-use Rattle.std.proofs.lemmas.List.{length-map, take_all}
-use Rattle.std.specs.{FinMap.entries, List.cons_option}
-use Rattle.cabinet_core.specs.Overdue.{lateness, latest_day, listed_of, overdue_list}
-use Rattle.cabinet_core.specs.{Register.Register, declared.overdue_inspections.OverdueRow.OverdueRow, declared.overdue_inspections.Seen.Seen}
+use Rattle.std.proofs.Common.{◌≡◌, ◌<◌, ℕ, List, [], ◌∷◌, map, length, take, refl, ap, ◌∙◌, arith}
+use Rattle.std.proofs.lemmas.List.{length-map, length-take, take_all}
+use Rattle.std.specs.FinMap.{entries}
+use Rattle.cabinet_core.specs.Overdue.{Listed, latest_day, listed_of, overdue_list}
+use Rattle.cabinet_core.specs.Register.{Register}
+use Rattle.cabinet_core.specs.declared.{overdue_inspections.OverdueRow.OverdueRow, overdue_inspections.Seen.Seen}
 use Rattle.office_tables_shelf.specs.Overdue.{ListsOverdue, ReadsLast, last_day_in, seen_on, seen_row}
 use Rattle.office_tables_shelf.specs.{Content.Content, declared.rows.IntersectionRow.IntersectionRow, RegisterStands.RegisterStandsSound}
 use Rattle.office_desk_cabinet.proofs.ListedRecords.{inspections_listed}
-use Rattle.office_machine.specs.{Office.Office, Office.IsSound, Step.answered, Step.overdue_on, Step.seen_of}
+use Rattle.office_machine.specs.{Office.Office, Step.answered, Step.overdue_on, Step.seen_of}
 use Rattle.office_desk.specs.StandFor.{StandForSound, row_of}
-use Rattle.office_desk_timing.proofs.{IntersectionCount.at_most_9999, IntersectionTable.Entry, IntersectionTable.of_entry, IntersectionTable.rows_read}
-use Rattle.office_desk.proofs.Recorded.{register_of}
 use Rattle.office_machine.specs.declared.command.Command.TheVariants as command
 use Rattle.office_machine.specs.declared.reply.Reply.TheVariants as reply
+use Rattle.office_desk_timing.proofs.{IntersectionTable.Entry, IntersectionTable.of_entry, IntersectionTable.rows_read}
+use Rattle.office_desk.proofs.Recorded.{register_of}
 
 -- ---- what is seen of each is what the office knows
 
@@ -39,28 +40,13 @@ first_overdue tables office day most found stands it =
     (ap (λ (rows : List (ℕ × IntersectionRow)). map (seen_on it.days) rows) read
     ∙ seen_entries tables office.register it.days known it.last es)
 
--- ---- all of them
-
-fewer : (day : ℕ) (seen : List Seen) → length (overdue_list day seen) ≤ length seen
-fewer day [] = omega arith
-fewer day (one ∷ seen) =
-    let few = fewer day seen in
-    elim (lateness day one) as (λ late. length (cons_option late (overdue_list day seen)) ≤ length (one ∷ seen)) [ None ↦ omega arith | Some late ↦ omega arith ]
-
--- no more are overdue than there are intersections
-pub all_overdue : (office : Office) (day most : ℕ) → 9999 ≤ most → IsSound office
-    → take most (overdue_on office day) ≡ overdue_on office day
-all_overdue office day most many sound =
-    let es = entries office.intersections in
-    let seen = map (seen_of office.register) es in
-    let count = at_most_9999 office sound in
-    let same = length-map es (seen_of office.register) in
-    let few = fewer day seen in
-    take_all most (overdue_list day seen) (omega arith)
-
 -- ---- the query
 
+-- where fewer are listed than are asked for, all are
 pub overdue_shows : (tables : Content) (office : Office) (day most : ℕ) (found : List OverdueRow)
-    → StandForSound tables office → ListsOverdue tables day most found → 9999 ≤ most
+    → StandForSound tables office → ListsOverdue tables day most found → length found < most
     → answered office (command.Overdue day) ≡ (reply.Overdue (map listed_of found), office)
-overdue_shows tables office day most found stands lists many = rw (first_overdue tables office day most found stands lists, all_overdue office day most many stands.sound)
+overdue_shows tables office day most found stands lists few =
+    let late = overdue_on office day in
+    let first : map listed_of found ≡ take most late = first_overdue tables office day most found stands lists in
+    rw (first, take_all most late (omega (arith, few, ap (length {A = Listed}) first, length-map found listed_of, length-take most late)))

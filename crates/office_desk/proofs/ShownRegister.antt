@@ -105,13 +105,8 @@ open_shown first now so_far run tidy id n =
 
 -- ---- stock
 
-on_balance : (hand new_in new_out old_in old_out came went : ℕ) → hand + new_out ≡ new_in → new_in ≡ old_in + came → new_out ≡ old_out + went → old_out ≤ old_in → hand + went ≡ (old_in - old_out) + came
-on_balance hand new_in new_out old_in old_out came went adds ins outs covered = omega arith
-
 -- the pieces that are shown and those that were used are those that were on hand and those that were received
 pub stock_shown : (first now : Register) (so_far : List RecordCommand) → AreAccepted first so_far now → IsTidy first → IsTidy now
     → (code : List ℕ) → pieces_in (stock_of now) code + spent_by code so_far ≡ pieces first code + received_by code so_far
-stock_shown first now so_far run tidy still code =
-    ap (λ (o : Option ℕ). on_hand o + spent_by code so_far) (sym (get-entries (stock_by_code now) code) ∙ stock_has now code)
-    ∙ on_balance (on_hand (hand_of now code)) (pieces_delivered now code) (pieces_used now code) (pieces_delivered first code) (pieces_used first code) (received_by code so_far) (spent_by code so_far)
-    (hand_adds now code (still.stock code)) (delivered_law code so_far first now run) (used_law code so_far first now run) (tidy.stock code).covered
+stock_shown first now so_far run tidy still code = rw (← get-entries (stock_by_code now) code, stock_has now code)
+    (omega (arith, hand_adds now code (still.stock code), delivered_law code so_far first now run, used_law code so_far first now run, (tidy.stock code).covered))
