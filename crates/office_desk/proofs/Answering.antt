@@ -3,7 +3,7 @@ use Rattle.std.proofs.Common.{◌≡◌, ◌≢◌, ◌⊎◌, [], Result, Ok, E
 use Rattle.std.specs.Prelude.{MatchResult}
 use Rattle.office_desk_timing.specs.Decisions.{refusal_of}
 use Rattle.office_desk.proofs.{Looks.looks_any, Looks.looks_open, Looks.looks_weaker, Undamaged.damage_refuted}
-use Rattle.office_desk.specs.{Answers.AnswersAny, Asks.OnlyLooks, Asks.ReadsOffice, Damage.MeetsDamage, Named.IsNamedFor, Running.IsAnswered, Deciding.AddsNothing, Deciding.Decides}
+use Rattle.office_desk.specs.{Answers.AnswersAny, Asks.OnlyLooks, Asks.ReadsOffice, Damage.MeetsDamage, Named.IsNamedFor, Running.IsAnswerTo, Deciding.AddsNothing, Deciding.Decides}
 use Rattle.office_machine.specs.declared.{command.Command.Command, command.Command.TheVariants.Import, reply.Reply.Reply, reply.Reply.TheVariants.Imported, reply.Reply.TheVariants.Refused}
 use Rattle.office_tables_decisions.specs.{Reads.OnlyReads, declared.decided.Decided.Decided}
 use Rattle.office_tables_shelf.specs.{Content.Content, declared.shelf.Shelf.Ghosts, declared.shelf.ShelfFault.ShelfFault, declared.shelf.ShelfFault.TheVariants.Damaged}
@@ -20,7 +20,7 @@ unavailable_read {query = query} it =
 
 -- a reply for which no row is written
 unwritten : (command : Command) (decided : Decided) (said : Reply) → decided.reply ≡ said → decided.changes.items ≡ [] → (tables : Content) → AnswersAny tables command said tables
-    → IsNamedFor command said → (said ≡ Refused refusal.Damaged → MeetsDamage tables command) → IsAnswered tables command decided
+    → IsNamedFor command said → (said ≡ Refused refusal.Damaged → MeetsDamage tables command) → IsAnswerTo tables command decided
 unwritten command decided said is none tables answers named damaged = record {
   step = rw (is, none) answers;
   writes = λ table. rw none (omega arith);
@@ -37,7 +37,7 @@ IsTold read given = MatchResult read (λ decided. given ≡ decided) (λ fault. 
 
 -- a command is answered so on a shelf that was only read
 pub decided_look : {S : Type 0} (g : Ghosts S) (command : Command) (read : Result Decided ShelfFault) (given : Decided) (old new : S) → OnlyReads g (command ≢ Import []) read old new → IsTold read given
-    → Decides (g.is_honest new) (g.content old) command read → (command ≡ Import [] → IsOkAnd read AddsNothing) → OnlyLooks g old new (λ tables. IsAnswered tables command given)
+    → Decides (g.is_honest new) (g.content old) command read → (command ≡ Import [] → IsOkAnd read AddsNothing) → OnlyLooks g old new (λ tables. IsAnswerTo tables command given)
 decided_look g (Import []) (Ok decided) given old new reads is decides nothing =
     let it = nothing refl in
     looks_any reads.kept reads.clean_before (λ tables. unwritten (Import []) given (Imported 0 0) (rw is it.0) (rw is it.1) tables

@@ -1,7 +1,7 @@
 -- What a read gives, from the shelf on; and reads one after another.
 use Rattle.std.proofs.Common.{◌≡◌, ◌⊎◌, ◌∙◌, Result, Ok, Err, IsErrAnd, ap, inl, inr, refl, subst}
 use Rattle.std.specs.Prelude.{IfOk, MatchResult}
-use Rattle.office_desk.specs.{Asks.Gives, Asks.HoldsTables, Asks.KeepsOffice, Asks.OnlyLooks, Asks.ReadsOffice, Changes.IsQueryCommand, Running.IsAnswered}
+use Rattle.office_desk.specs.{Asks.Gives, Asks.HoldsTables, Asks.KeepsOffice, Asks.OnlyLooks, Asks.ReadsOffice, Changes.IsQueryCommand, Running.IsAnswerTo}
 use Rattle.office_desk_timing.specs.Decisions.{refusal_of}
 use Rattle.office_machine.specs.declared.{command.Command.Command, refusal.Refusal.Refusal, refusal.Refusal.TheVariants.Unavailable}
 use Rattle.office_tables_decisions.specs.{Reads.Reports, declared.decided.Decided.Decided}
@@ -66,7 +66,7 @@ module _ {S : Type 0} {g : Ghosts S} where
   -- ---- one query
 
   -- a query that was decided was read
-  pub decided_read : {old new : S} {query : Command} {decided : Decided} → OnlyLooks g old new (λ tables. IsAnswered tables query decided) → IsQueryCommand query → ReadsOffice g old new query decided.reply
+  pub decided_read : {old new : S} {query : Command} {decided : Decided} → OnlyLooks g old new (λ tables. IsAnswerTo tables query decided) → IsQueryCommand query → ReadsOffice g old new query decided.reply
   decided_read it asks = looks_weaker it (λ tables is. record { step = rw (is.query asks) at is.step; named = is.named; damaged = is.damaged })
 
 -- ---- what a read of a shelf gives, with its fault as a refusal

@@ -1,7 +1,7 @@
 -- From a decision to what was done, and from steps to runs.
 use Rattle.std.proofs.Common.{◌≡◌, ◌≢◌, ◌⊎◌, List, [], ◌∷◌, ◌++◌, Result, Ok, Err, refl, ap, sym, subst, ◌∙◌, inl, inr}
 use Rattle.office_desk.specs.{Answers.AnswersAny, Answers.StandsAfterStep, StandFor.StandForSound}
-use Rattle.office_desk.specs.Running.{Answered, IsAnswered, IsDone, IsRun, MakesTables, Reaches, RunsAny, StopLeaves, WasAnswered, reply_made, rows_made}
+use Rattle.office_desk.specs.Running.{Answered, IsAnswerTo, WasDone, IsRun, MakesTables, Reaches, RunsAny, StopLeaves, WasAnswered, reply_made, rows_made}
 use Rattle.office_desk.proofs.{Answering.unavailable_answers, RegisterLaws.runs_register, Repeats.runs_repeat, Street.keeps_the_street, TimingLaw.runs_timing}
 use Rattle.office_machine.specs.{Step.AreSound, Step.Step, Step.Run, Office.Office, Office.IsSound, declared.command.Command.Command, declared.reply.Reply.Reply, declared.refusal.Refusal.TheVariants.Damaged, declared.refusal.Refusal.TheVariants.Unavailable, declared.reply.Reply.TheVariants.Refused}
 use Rattle.office_tables_decisions.specs.declared.decided.Decided.{Decided}
@@ -13,7 +13,7 @@ none_or_some (x ∷ xs) = inr (λ e. cc)
 
 -- ---- what was done
 
-module _ {S : Type 0} {g : Ghosts S} {Decides : Content → Decided → Type 0} {reply : Reply} {old new : S} (it : IsDone g Decides reply old new) where
+module _ {S : Type 0} {g : Ghosts S} {Decides : Content → Decided → Type 0} {reply : Reply} {old new : S} (it : WasDone g Decides reply old new) where
   pub done_clean : g.is_clean new → g.is_clean old
   done_clean clean = it.looks.clean (it.carried.writes.clean clean)
 
@@ -53,7 +53,7 @@ was_answered Answers Meets tables decided (Ok made) step unavailable meets = rec
 was_answered Answers Meets tables decided (Err why) step unavailable meets = record { step = unavailable; damaged = λ told. absurd cc }
 
 -- the changes of an answer make the office after the command's own step
-after_step : (tables : Content) (command : Command) (decided : Decided) → IsAnswered tables command decided → decided.changes.items ≢ []
+after_step : (tables : Content) (command : Command) (decided : Decided) → IsAnswerTo tables command decided → decided.changes.items ≢ []
     → StandsAfterStep tables command (changed_by tables decided.changes.items)
 after_step tables command decided is some office stands =
     let answer = is.step office stands in

@@ -1,7 +1,7 @@
 -- What an edit of a plan promises, of the shelf before and after it.
 use Rattle.std.specs.Prelude.{ℕ, List, ⊤}
 use Rattle.std.specs.FinMap.{get}
-use Rattle.office_desk.specs.{Running.IsDone, StandFor.StandForSound}
+use Rattle.office_desk.specs.{Running.WasDone, StandFor.StandForSound}
 use Rattle.office_desk_timing.specs.{Revising.EditsOffice, Revising.IsEditDecision, declared.revising.PlanEdit.PlanEdit}
 use Rattle.office_machine.specs.{Office.Office, declared.reply.Reply.Reply}
 use Rattle.office_tables_shelf.specs.{Content.Content, declared.shelf.Shelf.Ghosts}
@@ -14,4 +14,4 @@ AfterEdit id clerk edit old found = (office : Office) → StandForSound old offi
 -- A PLAN WAS EDITED: all of its steps took effect, or none; and the rows that were written are those of the edit
 abbrev pub EditsPlan : {S : Type 0} → Ghosts S → (id : ℕ) → (clerk : List ℕ) → PlanEdit → Reply → (old new : S) → Type 0
 EditsPlan g id clerk edit =
-    IsDone g (λ tables decided. IsEditDecision ⊤ tables id clerk edit decided.reply decided.changes.items)
+    WasDone g (λ tables decided. IsEditDecision ⊤ tables id clerk edit decided.reply decided.changes.items)

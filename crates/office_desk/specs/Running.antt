@@ -16,7 +16,7 @@ MakesTables g old new Makes = TellsTables g old new (λ tables. EndsIn (g.is_hon
 -- A COMMAND WAS ANSWERED, on these tables: the reply and what the rows make of the tables are one step; the rows are at most those of the kind of command, and
 -- none where it is refused or only asks; where one is added, none stands under its key; a refusal is one that is named for the command, Unavailable, or
 -- Damaged, which tells only of a row that the command reads and that is no record.
-pub record IsAnswered (tables : Content) (command : Command) (decided : Decided) : Type 0 where
+pub record IsAnswerTo (tables : Content) (command : Command) (decided : Decided) : Type 0 where
   pub step : AnswersAny tables command decided.reply (changed_by tables decided.changes.items)
   pub writes : (table : Table) → writes_in table decided.changes.items ≤ most_writes tables command table
   pub news : AddNew tables decided.changes.items
@@ -34,7 +34,7 @@ rows_made (Err why) rows = []
 
 -- ALL ROWS ARE WRITTEN, OR NONE. Once some were, the database is still open on a clean disk, and a crash leaves the tables of now alone; else it leaves what it
 -- could leave before, or the tables with all rows. This makes no disk clean again, and opens no database.
-pub record WritesRows {S : Type 0} (g : Ghosts S) (rows : List RowChange) (result : Result Unit ShelfFault) (old new : S) : Type 0 where
+pub record AppliesRows {S : Type 0} (g : Ghosts S) (rows : List RowChange) (result : Result Unit ShelfFault) (old new : S) : Type 0 where
   pub clean : g.is_clean new → g.is_clean old
   pub honest : g.is_honest new → g.is_honest old
   pub made : g.is_honest new → g.content new ≡ changed_by (g.content old) (rows_made result rows)
@@ -54,11 +54,11 @@ reply_made (Err why) said = Refused Unavailable
 -- the rows of a decision are written, or none, and it is replied so
 pub record CarriesOut {S : Type 0} (g : Ghosts S) (decided : Decided) (reply : Reply) (old new : S) : Type 0 where
   pub made : Result Unit ShelfFault
-  pub writes : WritesRows g decided.changes.items made old new
+  pub writes : AppliesRows g decided.changes.items made old new
   pub told : reply ≡ reply_made made decided.reply
 
 -- WHAT WAS ASKED IS DONE, all of it or none: it was decided by reads alone, and then carried out
-pub record IsDone {S : Type 0} (g : Ghosts S) (Decides : Content → Decided → Type 0) (reply : Reply) (old new : S) : Type 0 where
+pub record WasDone {S : Type 0} (g : Ghosts S) (Decides : Content → Decided → Type 0) (reply : Reply) (old new : S) : Type 0 where
   pub decided : Decided
   pub mid : S
   pub looks : OnlyLooks g old mid (λ tables. Decides tables decided)
@@ -66,7 +66,7 @@ pub record IsDone {S : Type 0} (g : Ghosts S) (Decides : Content → Decided →
 
 -- a command was run
 abbrev pub IsRun : {S : Type 0} → Ghosts S → Command → Reply → (old new : S) → Type 0
-IsRun g command = IsDone g (λ tables. IsAnswered tables command)
+IsRun g command = WasDone g (λ tables. IsAnswerTo tables command)
 
 -- ---- what was done
 

@@ -3,7 +3,7 @@ ghost use Rattle.std.specs.Prelude.{◌≡◌, ℕ, ◌<◌, ◌≤◌, ◌+◌,
 ghost use Rattle.cabinet_core.specs.{Orders.is_open, Overdue.listed_of, Register.records_at};
 ghost use Rattle.office_tables_shelf.specs.{CabinetReads.HasAnyDamagedOrder, Damage.HasAnyDamagedIntersection, OpenOrders.orders_in};
 ghost use Rattle.office_desk.specs.{Asks.Gives, Asks.OnlyLooks, Checking.Checks, Damage.MeetsDamage, Damage.MeetsImportDamage, Editing.EditsPlan, StandFor.StandForSound};
-ghost use Rattle.office_desk.specs.Running.{CarriesOut, IsAnswered, IsRun, MakesTables, RunsAny, WritesRows};
+ghost use Rattle.office_desk.specs.Running.{CarriesOut, IsAnswerTo, IsRun, MakesTables, RunsAny, AppliesRows};
 ghost use Rattle.office_desk_timing.specs.Listing.{ListsEachIntersection};
 ghost use Rattle.office_machine.specs.{Listed.intersections_of, Office.Office as OfficeState, Step.overdue_on};
 
@@ -75,7 +75,7 @@ impl<S: Shelf> Office<S> {
     /// reads is no record, Damaged.
     pub fn decide(&mut self, alloc: Global, command: &Command) -> Decided
         ensures { OnlyLooks S.Shelf self.old self.new
-            (λ tables. IsAnswered tables command.now result) }
+            (λ tables. IsAnswerTo tables command.now result) }
     {
         or_refusal(alloc, try_decide(&mut self.shelf, alloc, command))
     }
@@ -83,7 +83,7 @@ impl<S: Shelf> Office<S> {
     /// Makes the changes of a decision in their order, all or none; where there are none, nothing
     /// is done. After a fault the tables of a database that is still open are as they were.
     pub fn apply(&mut self, alloc: Global, changes: &[RowChange]) -> Result<(), ShelfFault>
-        ensures { WritesRows S.Shelf changes.now result self.old self.new }
+        ensures { AppliesRows S.Shelf changes.now result self.old self.new }
     {
         if changes.is_empty() {
             return Ok(());
