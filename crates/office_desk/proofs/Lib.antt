@@ -13,7 +13,8 @@ pub mod FoundAgain
 pub mod OverdueRows
 pub mod Writes
 pub mod Street
-pub mod Making
+pub mod Undamaged
+pub mod Answering
 pub mod Runs
 pub mod Edits
 mod TriedRecords

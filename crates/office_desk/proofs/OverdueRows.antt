@@ -1,5 +1,5 @@
 -- The intersections that were read, and what is known of their inspections, are those of the office.
-use Rattle.std.proofs.Common.{◌≡◌, ◌<◌, ℕ, List, [], ◌∷◌, map, length, take, refl, ap, sym, ◌∙◌, arith}
+use Rattle.std.proofs.Common.{◌≡◌, ◌<◌, ℕ, List, [], ◌∷◌, map, length, take, refl, ap, ◌∙◌, arith}
 use Rattle.std.proofs.lemmas.List.{length-map, length-take, take_all}
 use Rattle.std.specs.FinMap.{entries}
 use Rattle.cabinet_core.specs.Overdue.{Listed, latest_day, listed_of, overdue_list}
@@ -43,12 +43,10 @@ first_overdue tables office day most found stands it =
 -- ---- the query
 
 -- where fewer are listed than are asked for, all are
-pub overdue_shows : (tables : Content) (office : Office) (day most : ℕ) (found : List OverdueRow) → length found < most
-    → StandForSound tables office → ListsOverdue tables day most found
+pub overdue_shows : (tables : Content) (office : Office) (day most : ℕ) (found : List OverdueRow)
+    → StandForSound tables office → ListsOverdue tables day most found → length found < most
     → answered office (command.Overdue day) ≡ (reply.Overdue (map listed_of found), office)
-overdue_shows tables office day most found few stands lists =
+overdue_shows tables office day most found stands lists few =
     let late = overdue_on office day in
     let first : map listed_of found ≡ take most late = first_overdue tables office day most found stands lists in
-    let count : length (take most late) ≡ length found = sym (ap (length {A = Listed}) first) ∙ length-map found listed_of in
-    let whole = take_all most late (omega (arith, few, count, length-take most late)) in
-    λ k. (reply.Overdue (sym (first ∙ whole) k), office)
+    rw (first, take_all most late (omega (arith, few, ap (length {A = Listed}) first, length-map found listed_of, length-take most late)))

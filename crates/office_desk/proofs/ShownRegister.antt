@@ -1,15 +1,14 @@
 -- What the queries of the register show after records that were accepted, each in its turn.
-use Rattle.std.proofs.Common.{◌≡◌, ℕ, ◌+◌, ◌-◌, ◌≤◌, Bool, true, false, ◌&&◌, ◌||◌, ◌==◌, cond, List, [], ◌∷◌, ◌++◌, map, filter, Option, Some, None, T, refl, ap, sym, subst, ◌∙◌, arith}
-use Rattle.std.specs.FinMap as finite
+use Rattle.std.proofs.Common.{◌≡◌, ℕ, ◌+◌, ◌-◌, ◌≤◌, Bool, true, false, ◌&&◌, ◌==◌, List, [], ◌∷◌, ◌++◌, map, filter, Option, Some, None, T, refl, ap, sym, subst, ◌∙◌, inl, inr, arith}
+use Rattle.std.proofs.lemmas.Bool.{cases_Bool}
 use Rattle.std.specs.FinMap.{get, entries, entries_sorted, get-entries}
-use Rattle.std.specs.{FinMap.Entries.is_sorted, FinMap.Entries.below_all, FinMap.Entries.where_key, List.AllByRecursion, Prelude.IfSome}
-use Rattle.std.specs.Ordering.{eq_by_cmp, is_eq}
-use Rattle.cabinet_core.specs.{Cabinet.added, Cabinet.on_hand, Cabinet.close_line, Cabinet.with_closing, Cabinet.record_of, Orders.is_open, Orders.is_open_at, Orders.is_open_order, Orders.open_at, Runs.AreAccepted, Runs.open_by, Runs.received_by, Runs.spent_by, Stock.IsStocked, Stock.pieces_delivered, Stock.hand_of, Stock.pieces, Stock.stock_by_code, Stock.stock_of, Stock.pieces_used, Register.RecordKey, Register.Register, Register.record_cmp, Sound.IsOrderAt, Sound.IsSoundRegister, Step.line_at, Step.with_closed, Step.with_record}
+use Rattle.std.specs.{FinMap.Entries.is_sorted, FinMap.Entries.below_all, FinMap.Entries.where_key, List.AllByRecursion, Prelude.IfSome, Ordering.eq_by_cmp, Ordering.is_eq}
+use Rattle.cabinet_core.specs.{Cabinet.added, Cabinet.on_hand, Cabinet.close_line, Cabinet.with_closing, Cabinet.record_of, Orders.is_open, Orders.is_open_at, Orders.is_open_order, Orders.open_at, Runs.AreAccepted, Runs.open_by, Runs.received_by, Runs.spent_by, Stock.IsStocked, Stock.pieces_delivered, Stock.hand_of, Stock.pieces, Stock.stock_by_code, Stock.stock_of, Stock.pieces_used, Register.RecordKey, Register.Register, Register.record_cmp, Sound.IsOrderAt, Sound.IsSoundRegister, Step.line_at, Step.with_closed, Step.with_record, declared.command.RecordCommand.RecordCommand, declared.record.Closing.Closing, declared.record.Order.Order}
 use Rattle.cabinet_core.specs.declared.command.RecordCommand.TheVariants.{Inspect, OpenOrder, UsePart, CloseOrder, Receive}
-use Rattle.cabinet_core.specs.declared.{command.RecordCommand.RecordCommand, record.Closing.Closing, record.Order.Order}
 use Rattle.cabinet_core.proofs.{EntryLemmas.entries_stand, EntryLemmas.tied, KeyOrders.record_exact, KeyOrders.record_total, KeyOrders.record_ties, Puts.all_put, Puts.if_more, RecordLaws.open_law, RecordLaws.delivered_law, RecordLaws.used_law, StockList.stock_has, Sound.usable, Sound.receivable, StockLemmas.line_stocked, StockLemmas.delivery_stocked, StockLemmas.hand_adds}
 use Rattle.office_tables_shelf.proofs.ListLemmas.{less, parts}
 use Rattle.office_machine.specs.RegisterRuns.{is_among_numbers, pieces_in}
+use Rattle.std.specs.FinMap as finite
 
 -- ---- what stays over records that are accepted
 
@@ -36,14 +35,14 @@ closed_tidy : (r : Register) (id n : ℕ) (closing : Closing) (there : Option Or
 closed_tidy r id n closing None is line tidy = absurd cc
 closed_tidy r id n closing (Some order) is line tidy = record {
   orders = all_put record_total record_exact IsNumbered r.orders (id, n) (with_closing order closing) tidy.orders (subst (λ (o : Option Order). IfSome o (IsNumbered (id, n))) is (tidy.orders (id, n)));
-  stock = λ code. record { covered = (tidy.stock code).covered; bounded = (tidy.stock code).bounded };
+  stock = λ code. search (tidy.stock code);
 }
 
 tidy_step : (r : Register) (command : RecordCommand) → line_at r command ≡ added → IsTidy r → IsTidy (with_record r command)
-tidy_step r (Inspect id inspection) line tidy = record { orders = tidy.orders; stock = λ code. record { covered = (tidy.stock code).covered; bounded = (tidy.stock code).bounded } }
+tidy_step r (Inspect id inspection) line tidy = record { orders = tidy.orders; stock = λ code. search (tidy.stock code) }
 tidy_step r (OpenOrder id opening) line tidy = record {
   orders = all_put record_total record_exact IsNumbered r.orders (id, opening.number) (record_of opening) tidy.orders refl;
-  stock = λ code. record { covered = (tidy.stock code).covered; bounded = (tidy.stock code).bounded };
+  stock = λ code. search (tidy.stock code);
 }
 tidy_step r (UsePart id used) line tidy =
     let is = usable _ _ _ used line in
@@ -81,36 +80,21 @@ of_id id key = key.0 == id
 abbrev open_of : ℕ → List (Entry) → List ℕ
 open_of id es = numbers_of (map (λ e. e.1) (where_key record_cmp (of_id id) es))
 
--- an order before others, of the intersection or of another, with the number or with another
-one_more : (of_id has_number is_open rest found : Bool) → rest ≡ found → ((of_id && has_number) ≡ true → found ≡ false)
-    → cond of_id (cond is_open (has_number || rest) rest) rest ≡ cond (of_id && has_number) is_open found
-one_more false n o rest found same none = same
-one_more true false true rest found same none = same
-one_more true false false rest found same none = same
-one_more true true true rest found same none = refl
-one_more true true false rest found same none = same ∙ none refl
-
--- what is made of either is made of the one that it is
-of_either : {X Y : Type 0} (f : X → Y) (b : Bool) (x y : X) → cond b (f x) (f y) ≡ f (cond b x y)
-of_either f true x y = refl
-of_either f false x y = refl
-
 open_listed : (id n : ℕ) (es : List (Entry)) → T (is_sorted record_cmp es) → AllByRecursion (λ e. IsNumbered e.0 e.1) es
     → is_among_numbers (open_of id es) n ≡ is_open_order (finite.find record_cmp (id, n) es)
 open_listed id n [] sorted each = refl
 open_listed id n (e ∷ es) sorted each =
-    let later = is_among_numbers (open_of id es) n in
-    let there = is_open_order (finite.find record_cmp (id, n) es) in
+    let later = open_listed id n es (parts _ _ sorted).1 each.1 in
     let ties : eq_by_cmp record_cmp (id, n) e.0 ≡ ((e.0.0 == id) && (e.1.number == n)) = record_ties id n e.0.0 e.0.1 ∙ ap (λ m. (e.0.0 == id) && (m == n)) (sym each.0) in
-    let of : List Entry = where_key record_cmp (of_id id) es in
-    let still : List Order = filter is_open (map (λ (d : Entry). d.1) of) in
-    sym (of_either (λ (ds : List Entry). is_among_numbers (numbers_of (map (λ (d : Entry). d.1) ds)) n) (of_id id e.0) (e ∷ of) of)
-    ∙ ap (λ b. cond (of_id id e.0) b later)
-    (sym (of_either (λ (orders : List Order). is_among_numbers (map (λ (o : Order). o.number) orders) n) (is_open e.1) (e.1 ∷ still) still))
-    ∙ one_more (e.0.0 == id) (e.1.number == n) (is_open e.1) later there (open_listed id n es (parts _ _ sorted).1 each.1)
-    (λ both. ap is_open_order (none_above (id, n) e.0 es (ties ∙ both) (parts _ _ sorted).0))
-    ∙ sym (sym (of_either is_open_order (eq_by_cmp record_cmp (id, n) e.0) (Some e.1) (finite.find record_cmp (id, n) es))
-    ∙ ap (λ b. cond b (is_open e.1) there) ties)
+    rw ties (elim (cases_Bool (e.0.0 == id)) [
+      | inr other ↦ rw other later
+      | inl here ↦ elim (cases_Bool (e.1.number == n)) [
+        | inr not ↦ elim (cases_Bool (is_open e.1)) [ inl open_now ↦ rw (here, open_now, not) later | inr closed ↦ rw (here, closed, not) later ]
+        | inl same ↦
+            let gone = none_above (id, n) e.0 es (rw (here, same) at ties) (parts _ _ sorted).0 in
+            elim (cases_Bool (is_open e.1)) [ inl open_now ↦ rw (here, open_now, same) (sym open_now) | inr closed ↦ rw (here, closed, same) (later ∙ ap is_open_order gone ∙ sym closed) ]
+      ]
+    ])
 
 -- the orders that are shown are those that records that were accepted left open
 pub open_shown : (first now : Register) (so_far : List RecordCommand) → AreAccepted first so_far now → IsTidy now → (id n : ℕ) → is_among_numbers (open_at now id) n ≡ open_by id n (is_open_at first id n) so_far
@@ -121,13 +105,8 @@ open_shown first now so_far run tidy id n =
 
 -- ---- stock
 
-on_balance : (hand new_in new_out old_in old_out came went : ℕ) → hand + new_out ≡ new_in → new_in ≡ old_in + came → new_out ≡ old_out + went → old_out ≤ old_in → hand + went ≡ (old_in - old_out) + came
-on_balance hand new_in new_out old_in old_out came went adds ins outs covered = omega arith
-
 -- the pieces that are shown and those that were used are those that were on hand and those that were received
 pub stock_shown : (first now : Register) (so_far : List RecordCommand) → AreAccepted first so_far now → IsTidy first → IsTidy now
     → (code : List ℕ) → pieces_in (stock_of now) code + spent_by code so_far ≡ pieces first code + received_by code so_far
-stock_shown first now so_far run tidy still code =
-    ap (λ (o : Option ℕ). on_hand o + spent_by code so_far) (sym (get-entries (stock_by_code now) code) ∙ stock_has now code)
-    ∙ on_balance (on_hand (hand_of now code)) (pieces_delivered now code) (pieces_used now code) (pieces_delivered first code) (pieces_used first code) (received_by code so_far) (spent_by code so_far)
-    (hand_adds now code (still.stock code)) (delivered_law code so_far first now run) (used_law code so_far first now run) (tidy.stock code).covered
+stock_shown first now so_far run tidy still code = rw (← get-entries (stock_by_code now) code, stock_has now code)
+    (omega (arith, hand_adds now code (still.stock code), delivered_law code so_far first now run, used_law code so_far first now run, (tidy.stock code).covered))

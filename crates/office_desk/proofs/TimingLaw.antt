@@ -1,50 +1,31 @@
 -- Over a run of commands, a committed set is the draft just before its last accepted commit, or what it was at the start.
-use Rattle.std.proofs.Common.{◌≡◌, ℕ, Bool, true, false, List, [], ◌∷◌, Option, Some, None, Result, Ok, Err, cond, refl, ap, sym, subst, ◌∙◌, eq-eqb, ne_eqb}
+use Rattle.std.proofs.Common.{◌≡◌, ℕ, Bool, true, false, List, [], ◌∷◌, Option, Some, None, Ok, cond, refl, ap, sym, ◌∙◌, eq-eqb, ne_eqb}
 use Rattle.std.specs.{Prelude.◌&&◌, FinMap.get}
-use Rattle.signal_records.specs.TimingSet.{Rows}
+use Rattle.signal_records.specs.{TimingSet.Rows, declared.state.Stage.Stage}
 use Rattle.draft_core.specs.Transaction.{TimingSide, Draft, holder_of, owned, with_draft, begun_from, abandoned_from, table_line}
-use Rattle.draft_core.specs.declared.refusal.DraftRefusal.{DraftRefusal}
-use Rattle.draft_core.specs.declared.refusal.DraftRefusal.TheVariants.{NotNormal, NotTransaction}
-use Rattle.signal_records.specs.declared.state.Stage.{Stage}
+use Rattle.draft_core.specs.declared.{refusal.DraftRefusal.DraftRefusal, step.Step.Step as DraftStep, step.Step.TheVariants.Begin, step.Step.TheVariants.Commit, step.Step.TheVariants.Abandon}
 use Rattle.draft_core.proofs.Sound.{owned_inverts, committed_inverts}
-use Rattle.office_machine.specs.{Office.Office, Office.Intersection, Office.side_of, Office.side_at, Step.Step, Step.Run, Step.moved_to, Step.with_intersection, Step.new_intersection, Timing.is_commit_of, Timing.is_moved, Timing.set_of_draft, Timing.running_plan, declared.command.Command.Command, declared.reply.Reply.Reply}
-use Rattle.office_machine.specs.declared.command.Command.TheVariants as command
+use Rattle.office_machine.specs.{Office.Office, Office.Intersection, Office.side_at, Step.Run, Step.moved_to, Step.with_intersection, Step.new_intersection, Timing.is_commit_of, Timing.is_moved, Timing.set_of_draft, Timing.running_plan, declared.command.Command.Command, declared.reply.Reply.Reply}
 use Rattle.office_desk_timing.proofs.Stands.{same_id, other_id, side_after}
 use Rattle.office_desk.proofs.Walks.{HoldsOfEach, records_so, step_so}
 use Rattle.office_tables_decisions.specs.Asking.{asking_command}
-use Rattle.draft_core.specs.declared.step.{Step.Step as DraftStep, Step.TheVariants.Begin, Step.TheVariants.Commit, Step.TheVariants.Abandon}
+use Rattle.office_machine.specs.declared.command.Command.TheVariants as command
 
 -- ---- the lines of the table
 
--- the command keeps the committed set
-abbrev Keeps : (TimingSide → Result TimingSide DraftRefusal) → Type 0
-Keeps line = (side next : TimingSide) → line side ≡ Ok next → next.committed ≡ side.committed
-
-same_set : (after next : TimingSide) → ◌≡◌ {A = Result TimingSide DraftRefusal} (Ok after) (Ok next)
-    → next.committed ≡ after.committed
-same_set after next e = let same : next ≡ after = cc in ap (λ (s : TimingSide). s.committed) same
-
-owned_keeps : (stage : Stage) (wrong : DraftRefusal) (clerk : List ℕ) (next_draft : Draft → Draft)
-    → Keeps (λ side. owned holder_of side.draft stage wrong clerk
-    (λ draft. Ok (with_draft side (next_draft draft))))
+owned_keeps : (stage : Stage) (wrong : DraftRefusal) (clerk : List ℕ) (next_draft : Draft → Draft) (side next : TimingSide)
+    → owned holder_of side.draft stage wrong clerk (λ draft. Ok (with_draft side (next_draft draft))) ≡ Ok next → next.committed ≡ side.committed
 owned_keeps stage wrong clerk next_draft side next e =
-    let took = owned_inverts side stage wrong clerk
-    (λ draft. Ok (with_draft side (next_draft draft))) next e in
-    same_set (with_draft side (next_draft took.draft)) next took.gives
+    let took = owned_inverts side stage wrong clerk (λ draft. Ok (with_draft side (next_draft draft))) next e in
+    cc
 
-begun_keeps : (clerk : List ℕ) (held : Option Draft) → Keeps (λ side. begun_from side clerk held)
-begun_keeps clerk None side next e = same_set _ next e
-begun_keeps clerk (Some draft) side next e = absurd (let f : Err NotNormal ≡ Ok next = e in cc)
+begun_keeps : (clerk : List ℕ) (side next : TimingSide) (held : Option Draft) → begun_from side clerk held ≡ Ok next → next.committed ≡ side.committed
+begun_keeps clerk side next None e = cc
+begun_keeps clerk side next (Some draft) e = absurd cc
 
-abandoned_keeps : (held : Option Draft) → Keeps (λ side. abandoned_from side held)
-abandoned_keeps None side next e = absurd (let f : Err NotTransaction ≡ Ok next = e in cc)
-abandoned_keeps (Some draft) side next e = same_set _ next e
-
-commit_takes : (clerk : List ℕ) (side next : TimingSide) (instead : Rows) → table_line Commit clerk side ≡ Ok next → next.committed ≡ set_of_draft side.draft instead
-commit_takes clerk side next instead e =
-    let made = committed_inverts side clerk next e in
-    ap (λ (s : TimingSide). s.committed) made.2.becomes
-    ∙ sym (ap (λ d. set_of_draft d instead) made.1)
+abandoned_keeps : (side next : TimingSide) (held : Option Draft) → abandoned_from side held ≡ Ok next → next.committed ≡ side.committed
+abandoned_keeps side next None e = absurd cc
+abandoned_keeps side next (Some draft) e = cc
 
 -- what the set is after a step: the draft, where it is committed
 abbrev set_after : DraftStep → TimingSide → Rows
@@ -53,9 +34,11 @@ set_after _ side = side.committed
 
 step_keeps : (step : DraftStep) (clerk : List ℕ) (side next : TimingSide) → table_line step clerk side ≡ Ok next
     → next.committed ≡ set_after step side
-step_keeps Begin clerk side next e = begun_keeps clerk side.draft side next e
-step_keeps Commit clerk side next e = commit_takes clerk side next side.committed e
-step_keeps Abandon clerk side next e = abandoned_keeps side.draft side next e
+step_keeps Begin clerk side next e = begun_keeps clerk side next side.draft e
+step_keeps Commit clerk side next e =
+    let made = committed_inverts side clerk next e in
+    rw made.1 (ap (λ (s : TimingSide). s.committed) made.2.becomes)
+step_keeps Abandon clerk side next e = abandoned_keeps side next side.draft e
 step_keeps _ clerk side next e = owned_keeps _ _ clerk _ side next e
 
 -- ---- one step
@@ -77,20 +60,10 @@ commit_after : (q id : ℕ) (clerk : List ℕ) (office : Office) (i : Intersecti
     → get office.intersections id ≡ Some i → table_line Commit clerk i.timing ≡ Ok next
     → After q office (command.Commit id clerk) (moved_to next)
     (with_intersection office id (record i { timing = next }))
-commit_after q id clerk office i next there took = elim (side_after office id after q) [
-  | same_id e is ↦ subst Wanted (sym (eq-eqb q id e)) (
-      ap (λ (s : TimingSide). s.committed) is
-      ∙ step_keeps Commit clerk i.timing next took
-      ∙ sym (ap (λ (o : Option Intersection). set_of_draft (side_of o).draft (side_of o).committed)
-      (ap (λ n. get office.intersections n) e ∙ there)))
-  | other_id ne is ↦ subst Wanted (sym (ne_eqb q id ne)) (ap (λ (s : TimingSide). s.committed) is)
+commit_after q id clerk office i next there took = elim (side_after office id (record i { timing = next }) q) [
+  | same_id e is ↦ rw (eq-eqb q id e, e, there) (rw e at (ap (λ (s : TimingSide). s.committed) is ∙ step_keeps Commit clerk i.timing next took))
+  | other_id ne is ↦ rw (ne_eqb q id ne) (ap (λ (s : TimingSide). s.committed) is)
 ]
-  where
-    after : Intersection
-    after = record i { timing = next }
-
-    Wanted : Bool → Type 0
-    Wanted b = (side_at (with_intersection office id after) q).committed ≡ cond (b && true) (set_of_draft (side_at office q).draft (side_at office q).committed) (side_at office q).committed
 
 move_after : (step : DraftStep) (q id : ℕ) (clerk : List ℕ) (office : Office) (i : Intersection) (next : TimingSide)
     → get office.intersections id ≡ Some i → table_line step clerk i.timing ≡ Ok next
@@ -98,8 +71,7 @@ move_after : (step : DraftStep) (q id : ℕ) (clerk : List ℕ) (office : Office
     (with_intersection office id (record i { timing = next }))
 move_after Commit q id clerk office i next there took = commit_after q id clerk office i next there took
 move_after step q id clerk office i next there took =
-    put_keeps q id office (record i { timing = next }) (step_keeps step clerk i.timing next took
-    ∙ sym (ap (λ (o : Option Intersection). (side_of o).committed) there))
+    put_keeps q id office (record i { timing = next }) (rw there (step_keeps step clerk i.timing next took))
 
 -- a reply that accepts no step
 unmoved_keeps : (b m : Bool) (taken kept : Rows) → m ≡ false → kept ≡ cond (b && m) taken kept
@@ -109,8 +81,7 @@ unmoved_keeps false m taken kept e = refl
 each_after : (q : ℕ) (office : Office) → HoldsOfEach office (After q office)
 each_after q office = record {
   stays = λ asked said unmoved none. unmoved_keeps (is_commit_of q asked) (is_moved said) _ _ unmoved;
-  adds = λ id interval name absent. put_keeps q id office (new_intersection interval name)
-      (sym (ap (λ (o : Option Intersection). (side_of o).committed) absent));
+  adds = λ id interval name absent. put_keeps q id office (new_intersection interval name) (rw absent);
   moves = λ id clerk step i next there took. move_after step q id clerk office i next there took;
   records = λ c line. refl;
   imports = λ records done made. records_so
@@ -121,10 +92,6 @@ each_after q office = record {
       }) records 1 0 0 office done made;
 }
 
-step_after : (q : ℕ) (office next : Office) (command : Command) (reply : Reply) → Step office command reply next → After q office command reply next
-step_after q office next command reply =
-    step_so office (After q office) (each_after q office) command reply next
-
 -- ---- runs
 
 pub runs_timing : (q : ℕ) (before : Rows) (commands : List Command) (replies : List Reply) (first last : Office) (run : Run first commands replies last)
@@ -132,6 +99,5 @@ pub runs_timing : (q : ℕ) (before : Rows) (commands : List Command) (replies :
 runs_timing q before [] [] first last run is = ap (λ (o : Office). (side_at o q).committed) run ∙ is
 runs_timing q before (command ∷ commands) (reply ∷ replies) first last run is =
     runs_timing q (cond (is_commit_of q command && is_moved reply) (set_of_draft (side_at first q).draft before) before) commands replies run.0 last run.2
-    (step_after q first run.0 command reply run.1
-    ∙ ap (λ set. cond (is_commit_of q command && is_moved reply) (set_of_draft (side_at first q).draft set) set) is)
+    (rw (← is) (step_so first (After q first) (each_after q first) command reply run.0 run.1))
 runs_timing q before _ _ first last run is = absurd run

@@ -1,21 +1,18 @@
 -- What one command may make of an office, and one import of its register: what each keeps, a run
 -- keeps.
-use Rattle.std.proofs.Common.{◌≡◌, ℕ, ◌+◌, Bool, true, false, ◌==◌, ◌&&◌, cond, if◌then◌else◌, List, [], ◌∷◌, Option, Some, None, Result, Ok, Err, inl, inr, refl, sym, subst, subst₂}
+use Rattle.std.proofs.Common.{◌≡◌, ℕ, ◌+◌, Bool, true, false, ◌==◌, ◌&&◌, List, [], ◌∷◌, Option, Some, None, Result, Ok, Err, inl, inr, refl, sym, subst, subst₂}
+use Rattle.std.proofs.lemmas.Bool.{cond_both}
 use Rattle.std.specs.{FinMap.get, Str.bytes_eq}
 use Rattle.cabinet_core.specs.Cabinet.{Line, added as added_line, same as same_line, refused as refused_line}
-use Rattle.cabinet_core.specs.{Step.line_at, Step.with_record, Step.after_line, Orders.open_at}
-use Rattle.cabinet_core.specs.declared.command.RecordCommand.{RecordCommand}
-use Rattle.draft_core.specs.{Transaction.Draft, Transaction.TimingSide, Transaction.table_line, declared.refusal.DraftRefusal.DraftRefusal}
-use Rattle.draft_core.specs.declared.step.Step.{Step as DraftStep}
+use Rattle.cabinet_core.specs.{Step.line_at, Step.with_record, Step.after_line, declared.command.RecordCommand.RecordCommand}
+use Rattle.draft_core.specs.{Transaction.TimingSide, Transaction.table_line, declared.step.Step.Step as DraftStep}
+use Rattle.office_machine.specs.Step.{Step, answered, add_step, new_intersection, with_intersection, transacted, moved, moved_to, shown, draft_shown, reply_of, record_step, recorded_at, step_if_known, cabinet_of, is_known, with_recorded, import_by, import_from, import_step}
+use Rattle.office_machine.specs.{Office.Office, Office.Intersection, RegisterRuns.accepted_of, Timing.is_moved, declared.command.Command.Command, declared.refusal.Refusal.Refusal, declared.reply.Reply.Reply}
+use Rattle.office_tables_decisions.specs.Asking.{asking_command}
 use Rattle.draft_core.specs.declared.step.Step.TheVariants as step
-use Rattle.office_machine.specs.Step.{Step, answered, add_step, new_intersection, with_intersection, transacted, moved, moved_to, shown, state_shown, timing_shown, draft_shown, reply_of, record_step, recorded_at, step_if_known, cabinet_of, is_known, with_recorded, import_by, import_from, import_step, cabinet_shown}
-use Rattle.office_machine.specs.{Office.Office, Office.Intersection, RegisterRuns.accepted_of, RegisterRuns.is_accepted, RegisterRuns.records_asked}
-use Rattle.office_machine.specs.Timing.{is_moved}
-use Rattle.office_machine.specs.declared.{command.Command.Command, refusal.Refusal.Refusal, reply.Reply.Reply}
 use Rattle.office_machine.specs.declared.command.Command.TheVariants as command
 use Rattle.office_machine.specs.declared.refusal.Refusal.TheVariants as refusal
 use Rattle.office_machine.specs.declared.reply.Reply.TheVariants as reply
-use Rattle.office_tables_decisions.specs.Asking.{asking_command}
 
 -- ---- one command
 
@@ -38,61 +35,39 @@ pub record HoldsOfEach (office : Office) (Holds : Command → Reply → Office �
       → import_from 1 0 0 office records ≡ Ok done
       → Holds (command.Import records) (reply.Imported done.0 done.1) done.2
 
-none_asked : (b : Bool) → ◌≡◌ {A = List RecordCommand} (cond b [] []) []
-none_asked true = refl
-none_asked false = refl
+-- what holds of either case of a value holds of the value
+option_both : {A : Type 0} (P : Option A → Type 0) (o : Option A) → (o ≡ None → P None)
+    → ((x : A) → o ≡ Some x → P (Some x)) → P o
+option_both P None none some = none refl
+option_both P (Some x) none some = some x refl
 
-same_unmoved : (b : Bool)
-    → is_moved (if b then reply.Same else reply.Refused refusal.IntersectionDiffers) ≡ false
-same_unmoved true = refl
-same_unmoved false = refl
-
-draft_unmoved : (draft : Option Draft) → is_moved (draft_shown draft) ≡ false
-draft_unmoved None = refl
-draft_unmoved (Some draft) = refl
+result_both : {A E : Type 0} (P : Result A E → Type 0) (r : Result A E)
+    → ((x : A) → r ≡ Ok x → P (Ok x)) → ((why : E) → P (Err why)) → P r
+result_both P (Ok x) ok err = ok x refl
+result_both P (Err why) ok err = err why
 
 module _ (office : Office) (Holds : Command → Reply → Office → Type 0)
     (each : HoldsOfEach office Holds) where
   abbrev Has : Command → Reply × Office → Type 0
   Has asked answer = Holds asked answer.0 answer.1
 
-  -- a command that brings no record, answered by what is no step of the transaction
-  quiet : (asked : Command) (said : Reply) → is_moved said ≡ false
-      → records_asked office asked ≡ [] → Has asked (said, office)
-  quiet asked said unmoved none = each.stays asked said unmoved
-      (subst (λ (cs : List RecordCommand). cond (is_accepted said) cs [] ≡ []) (sym none)
-      (none_asked (is_accepted said)))
-
-  add_so : (id interval : ℕ) (name : List ℕ) (there : Option Intersection)
-      → get office.intersections id ≡ there
-      → Has (command.AddIntersection id interval name) (add_step office id interval name there)
-  add_so id interval name None is = each.adds id interval name is
-  add_so id interval name (Some i) is = quiet (command.AddIntersection id interval name) _
-      (same_unmoved (bytes_eq i.name name && (i.interval == interval))) refl
-
-  move_so : (id : ℕ) (clerk : List ℕ) (step : DraftStep) (i : Intersection)
-      (side : Result TimingSide DraftRefusal) → get office.intersections id ≡ Some i
-      → table_line step clerk i.timing ≡ side → Has (asking_command id clerk step) (moved office id i side)
-  move_so id clerk step i (Ok next) there took = each.moves id clerk step i next there took
-  move_so id clerk step i (Err why) there took = each.stays (asking_command id clerk step) _ refl refl
-
   transact_so : (id : ℕ) (clerk : List ℕ) (step : DraftStep) → Has (asking_command id clerk step)
       (transacted office id (table_line step clerk) (get office.intersections id))
-  transact_so id clerk step = at (get office.intersections id) refl
-    where
-      at : (there : Option Intersection) → get office.intersections id ≡ there
-          → Has (asking_command id clerk step) (transacted office id (table_line step clerk) there)
-      at None is = each.stays (asking_command id clerk step) _ refl refl
-      at (Some i) is = move_so id clerk step i (table_line step clerk i.timing) is refl
+  transact_so id clerk step =
+      let asked = asking_command id clerk step in
+      option_both (λ there. Has asked (transacted office id (table_line step clerk) there))
+      (get office.intersections id) (λ _. each.stays asked _ refl refl)
+      (λ i there. result_both (λ side. Has asked (moved office id i side))
+      (table_line step clerk i.timing)
+      (λ next took. each.moves id clerk step i next there took)
+      (λ why. each.stays asked _ refl refl))
 
   show_so : (asked : Command) (id : ℕ) (show : Intersection → Reply)
-      → records_asked office asked ≡ [] → ((i : Intersection) → is_moved (show i) ≡ false)
+      → ((i : Intersection) → Has asked (show i, office))
       → Has asked (shown (get office.intersections id) show, office)
-  show_so asked id show none unmoved = at (get office.intersections id)
-    where
-      at : (there : Option Intersection) → Has asked (shown there show, office)
-      at None = quiet asked (reply.Refused refusal.UnknownIntersection) refl none
-      at (Some i) = quiet asked (show i) (unmoved i) none
+  show_so asked id show there =
+      option_both (λ o. Has asked (shown o show, office)) (get office.intersections id)
+      (λ _. each.stays asked _ refl refl) (λ i _. there i)
 
   line_so : (c : RecordCommand) (line : Line) → line_at office.register c ≡ line
       → Has (command.Record c) (
@@ -105,29 +80,22 @@ module _ (office : Office) (Holds : Command → Reply → Office → Type 0)
   line_so c same_line is = each.stays (command.Record c) reply.Same refl refl
   line_so c (refused_line why) is = each.stays (command.Record c) _ refl refl
 
-  record_so : (c : RecordCommand)
-      → Has (command.Record c) (recorded_at office (cabinet_of c) (record_step office c))
-  record_so c = at (cabinet_of c)
-    where
-      there : (o : Option Intersection)
-          → Has (command.Record c) (step_if_known office o (record_step office c))
-      there None = each.stays (command.Record c) _ refl refl
-      there (Some i) = line_so c (line_at office.register c) refl
-
-      at : (about : Option ℕ)
-          → Has (command.Record c) (recorded_at office about (record_step office c))
-      at None = line_so c (line_at office.register c) refl
-      at (Some id) = there (get office.intersections id)
-
-  import_so : (records : List RecordCommand) (done : Result (ℕ × ℕ × Office) Refusal)
-      → import_from 1 0 0 office records ≡ done
-      → Has (command.Import records) (import_step office done)
-  import_so records (Ok done) is = each.imports records done is
-  import_so records (Err why) is = each.stays (command.Import records) _ refl refl
+  record_so : (c : RecordCommand) (about : Option ℕ)
+      → Has (command.Record c) (recorded_at office about (record_step office c))
+  record_so c None = line_so c (line_at office.register c) refl
+  record_so c (Some id) =
+      option_both (λ o. Has (command.Record c) (step_if_known office o (record_step office c)))
+      (get office.intersections id) (λ _. each.stays (command.Record c) _ refl refl)
+      (λ i _. line_so c (line_at office.register c) refl)
 
   answer_so : (asked : Command) → Has asked (answered office asked)
   answer_so (command.AddIntersection id interval name) =
-      add_so id interval name (get office.intersections id) refl
+      let asked = command.AddIntersection id interval name in
+      option_both (λ o. Has asked (add_step office id interval name o))
+      (get office.intersections id) (each.adds id interval name)
+      (λ i _. cond_both (bytes_eq i.name name && (i.interval == interval)) _ _
+      (λ said. Has asked (said, office))
+      (λ _. each.stays asked reply.Same refl refl) (λ _. each.stays asked _ refl refl))
   answer_so (command.Begin id clerk) = transact_so id clerk step.Begin
   answer_so (command.Edit id clerk changes) = transact_so id clerk (step.Edit changes)
   answer_so (command.Verify id clerk) = transact_so id clerk step.Verify
@@ -135,21 +103,17 @@ module _ (office : Office) (Holds : Command → Reply → Office → Type 0)
   answer_so (command.Commit id clerk) = transact_so id clerk step.Commit
   answer_so (command.Reopen id clerk) = transact_so id clerk step.Reopen
   answer_so (command.Abandon id clerk) = transact_so id clerk step.Abandon
-  answer_so (command.State id) =
-      show_so (command.State id) id (λ i. reply.State (state_shown id i)) refl (λ i. refl)
-  answer_so (command.Timing id) =
-      show_so (command.Timing id) id (λ i. reply.Timing (timing_shown i)) refl (λ i. refl)
-  answer_so (command.Draft id) = show_so (command.Draft id) id (λ i. draft_shown i.timing.draft)
-      refl (λ i. draft_unmoved i.timing.draft)
-  answer_so (command.Record c) = record_so c
+  answer_so (command.Draft id) = show_so _ id (λ i. draft_shown i.timing.draft)
+      (λ i. option_both (λ draft. Has (command.Draft id) (draft_shown draft, office))
+      i.timing.draft (λ _. each.stays _ _ refl refl) (λ draft _. each.stays _ _ refl refl))
+  answer_so (command.Record c) = record_so c (cabinet_of c)
   answer_so (command.Import records) =
-      import_so records (import_from 1 0 0 office records) refl
-  answer_so (command.Cabinet id) = show_so (command.Cabinet id) id
-      (λ i. reply.Cabinet (cabinet_shown office.register id)) refl (λ i. refl)
-  answer_so (command.OpenOrders id) = show_so (command.OpenOrders id) id
-      (λ i. reply.OpenOrders (open_at office.register id)) refl (λ i. refl)
-  answer_so command.Stock = quiet command.Stock _ refl refl
-  answer_so (command.Overdue day) = quiet (command.Overdue day) _ refl refl
+      result_both (λ done. Has (command.Import records) (import_step office done))
+      (import_from 1 0 0 office records) (λ done is. each.imports records done is)
+      (λ why. each.stays _ _ refl refl)
+  answer_so command.Stock = each.stays command.Stock _ refl refl
+  answer_so (command.Overdue day) = each.stays (command.Overdue day) _ refl refl
+  answer_so _ = show_so _ _ _ (λ i. each.stays _ _ refl refl)
 
   -- so it holds of a command that takes its step, or is answered Unavailable
   pub step_so : (asked : Command) (said : Reply) (next : Office) → Step office asked said next

@@ -1,17 +1,17 @@
 -- What a call that only asks an office promises.
-use Rattle.std.specs.Prelude.{◌≡◌, Result, Ok, Err, ⊤}
-use Rattle.office_desk.specs.Answers.{AnswersAny}
-use Rattle.office_desk.specs.Damage.{MeetsDamage}
-use Rattle.office_desk.specs.Named.{IsNamedFor}
-use Rattle.office_desk.specs.Running.{TellsTables}
-use Rattle.office_machine.specs.declared.command.Command.{Command}
-use Rattle.office_machine.specs.declared.refusal.Refusal.{Refusal}
-use Rattle.office_machine.specs.declared.refusal.Refusal.TheVariants.{Damaged}
-use Rattle.office_machine.specs.declared.reply.Reply.{Reply}
-use Rattle.office_machine.specs.declared.reply.Reply.TheVariants.{Refused}
-use Rattle.office_tables_shelf.specs.Content.{Content}
-use Rattle.office_tables_shelf.specs.Keeps.{KeepsShelf}
-use Rattle.office_tables_shelf.specs.declared.shelf.Shelf.{Ghosts}
+use Rattle.std.specs.Prelude.{◌≡◌, ◌⊎◌, Result, Ok, Err, ⊤}
+use Rattle.office_desk.specs.{Answers.AnswersAny, Damage.MeetsDamage, Named.IsNamedFor}
+use Rattle.office_machine.specs.declared.{command.Command.Command, refusal.Refusal.Refusal, refusal.Refusal.TheVariants.Damaged, refusal.Refusal.TheVariants.Unavailable, reply.Reply.Reply, reply.Reply.TheVariants.Refused}
+use Rattle.office_tables_shelf.specs.{Content.Content, Keeps.KeepsShelf, declared.shelf.Shelf.Ghosts}
+
+-- where its database is open, the shelf holds these tables
+abbrev pub HoldsTables : {S : Type 0} → Ghosts S → S → Content → Type 0
+HoldsTables g shelf tables = g.is_honest shelf → g.content shelf ≡ tables
+
+-- Where the disk has returned what was written, this is said of the tables that the database held before, if it was open then; and of any tables, if it was
+-- shut.
+abbrev pub TellsTables : {S : Type 0} → Ghosts S → (old new : S) → (Content → Type 0) → Type 0
+TellsTables g old new Says = g.is_clean new → (tables : Content) → HoldsTables g old tables → Says tables
 
 -- An office was only asked: its shelf is as it was, the call makes no disk clean again, and on a clean disk `Says` holds of the tables that the database held,
 -- if it was open, and of any tables, if it was shut.
@@ -23,6 +23,11 @@ pub record OnlyLooks {S : Type 0} (g : Ghosts S) (old new : S) (Says : Content �
 -- an office was only asked, and nothing is said of what was answered
 abbrev pub KeepsOffice : {S : Type 0} → Ghosts S → (old new : S) → Type 0
 KeepsOffice g old new = OnlyLooks g old new (λ _. ⊤)
+
+-- A read gives what is said of it, or is refused: with Unavailable, for want of memory or by the shelf, or with Damaged, where a row that it reads is no record.
+abbrev pub Gives : {A : Type 0} → Result A Refusal → (Says : A → Type 0) → (damage : Type 0) → Type 0
+Gives (Ok it) Says damage = Says it
+Gives (Err why) Says damage = (why ≡ Unavailable) ⊎ ((why ≡ Damaged) × damage)
 
 -- the reply that a read stands for: what it shows, or its refusal
 abbrev pub reply_to : {A : Type 0} → (show : A → Reply) → Result A Refusal → Reply

@@ -1,17 +1,17 @@
 //! A command of any kind is decided over a shelf.
-ghost use Rattle.std.specs.Prelude.{◌≡◌, ◌≢◌, [], IsOkAnd};
+ghost use Rattle.std.specs.Prelude.{◌≡◌, ◌≢◌, [], IsOkAnd, MatchResult};
 ghost use Rattle.office_tables_decisions.specs.Reads.{OnlyReads};
 ghost use Rattle.office_desk.specs.Deciding.{AddsNothing, Decides};
 ghost use Rattle.office_desk_timing.specs.Decisions.{refusal_of};
 
 use crate::importing::decide_import;
-use crate::overdue::decide_overdue;
 use crate::recording::decide_record_command;
-use crate::register_showing::{decide_cabinet, decide_open_orders, decide_stock};
+use crate::register_showing::{decide_cabinet, decide_open_orders, decide_overdue, decide_stock};
 use draft_core::step::Step;
 use office_desk_timing::{decide_add, decide_draft, decide_state, decide_timing, transact};
 use office_machine::command::Command;
 use office_machine::refusal::Refusal;
+use office_machine::reply::Reply;
 use office_tables_decisions::decided::Decided;
 use office_tables_shelf::shelf::{Shelf, ShelfFault};
 use std::alloc::Global;
@@ -23,6 +23,18 @@ pub(crate) fn shelf_refusal(fault: ShelfFault) -> Refusal
     match fault {
         ShelfFault::NoMemory | ShelfFault::Store => Refusal::Unavailable,
         ShelfFault::Damaged => Refusal::Damaged,
+    }
+}
+
+/// What was decided; or, for a fault of the shelf, its refusal, for which nothing is written.
+pub(crate) fn or_refusal(alloc: Global, decided: Result<Decided, ShelfFault>) -> Decided
+    ensures { MatchResult decided (λ made. result ≡ made)
+        (λ fault. (result.reply ≡ Reply.Refused (refusal_of fault))
+        × (result.changes.items ≡ [])) }
+{
+    match decided {
+        Ok(decided) => decided,
+        Err(fault) => Decided::from_refusal(alloc, shelf_refusal(fault)),
     }
 }
 

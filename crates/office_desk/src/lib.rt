@@ -3,11 +3,9 @@
 
 mod checking;
 mod deciding;
-mod editing;
 mod found;
 mod importing;
 pub mod office;
-mod overdue;
 mod reading;
 mod recording;
 mod register_showing;

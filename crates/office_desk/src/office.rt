@@ -1,29 +1,16 @@
 //! The office over a shelf: it decides and runs commands, and answers what pages and files ask.
-ghost use Rattle.std.specs.Prelude.{◌≡◌, ◌≢◌, ℕ, ◌<◌, ◌≤◌, ◌+◌, ◌⊎◌, [], ◌∷◌, ◌++◌, filter, map, take, Err, IfOk, OnOk, OnErr, vec_len, vec_capacity};
-ghost use Rattle.cabinet_core.specs.Orders.{is_open};
-ghost use Rattle.cabinet_core.specs.Overdue.{listed_of};
-ghost use Rattle.cabinet_core.specs.Register.{records_at};
-ghost use Rattle.office_tables_shelf.specs.CabinetReads.{HasAnyDamagedOrder};
-ghost use Rattle.office_tables_shelf.specs.Content.{Content};
-ghost use Rattle.office_tables_shelf.specs.Change.{changed_by};
-ghost use Rattle.office_tables_shelf.specs.Counts.{counts_after};
-ghost use Rattle.office_tables_shelf.specs.Damage.{HasAnyDamagedIntersection};
-ghost use Rattle.office_tables_shelf.specs.Keeps.{KeepsShelf};
-ghost use Rattle.office_tables_shelf.specs.OpenOrders.{orders_in};
-ghost use Rattle.office_desk.specs.Checking.{Checks};
-ghost use Rattle.office_desk.specs.Damage.{MeetsDamage, MeetsImportDamage};
-ghost use Rattle.office_desk.specs.Deciding.{DecidesIdly, IsAnswered};
-ghost use Rattle.office_machine.specs.Office.{Office as OfficeState};
-ghost use Rattle.office_desk.specs.Running.{AreRun, CarriesOut, IsRun, MakesTables, RefusesRead, RunsAny};
-ghost use Rattle.office_desk.specs.StandFor.{StandForSound};
+ghost use Rattle.std.specs.Prelude.{◌≡◌, ℕ, ◌<◌, ◌≤◌, ◌+◌, [], ◌∷◌, ◌++◌, filter, map, take, IfOk, OnErr, vec_len, vec_capacity};
+ghost use Rattle.cabinet_core.specs.{Orders.is_open, Overdue.listed_of, Register.records_at};
+ghost use Rattle.office_tables_shelf.specs.{CabinetReads.HasAnyDamagedOrder, Damage.HasAnyDamagedIntersection, OpenOrders.orders_in};
+ghost use Rattle.office_desk.specs.{Asks.Gives, Asks.OnlyLooks, Checking.Checks, Damage.MeetsDamage, Damage.MeetsImportDamage, Editing.EditsPlan, StandFor.StandForSound};
+ghost use Rattle.office_desk.specs.Running.{CarriesOut, IsAnswerTo, IsRun, MakesTables, RunsAny, AppliesRows};
 ghost use Rattle.office_desk_timing.specs.Listing.{ListsEachIntersection};
-ghost use Rattle.office_machine.specs.Listed.{intersections_of};
-ghost use Rattle.office_machine.specs.Step.{overdue_on};
+ghost use Rattle.office_machine.specs.{Listed.intersections_of, Office.Office as OfficeState, Step.overdue_on};
 
 use crate::checking::{Checked, check_records};
-use crate::deciding::{shelf_refusal, try_decide};
+use crate::deciding::{or_refusal, shelf_refusal, try_decide};
 use cabinet_core::{Day, Order, OverdueRow, RecordCommand};
-use office_desk_timing::list_intersections;
+use office_desk_timing::{PlanEdit, decide_revision, list_intersections};
 use office_machine::command::Command;
 use office_machine::intersections::ListedIntersection;
 use office_machine::refusal::Refusal;
@@ -31,7 +18,7 @@ use office_machine::reply::Reply;
 use office_tables_decisions::decided::Decided;
 use office_tables_shelf::rows::RowChange;
 use office_tables_shelf::shelf::{Shelf, ShelfFault};
-use signal_records::{InterId, NoMemory};
+use signal_records::{InterId, NoMemory, Words};
 use std::alloc::Global;
 use std::collections::BTreeMap;
 use std::marker::Model;
@@ -87,57 +74,22 @@ impl<S: Shelf> Office<S> {
     /// memory or the shelf refuses, the reply is Unavailable; where a stored row that the command
     /// reads is no record, Damaged.
     pub fn decide(&mut self, alloc: Global, command: &Command) -> Decided
-        ensures answers { IsAnswered (S.is_clean self.new) (S.content self.old)
-            command.now result }
-        ensures clean { S.is_clean self.new → S.is_clean self.old }
-        ensures shut { S.is_clean self.new →
-            S.is_honest self.new ⊎ DecidesIdly command.now result }
-        ensures kept { KeepsShelf S.Shelf self.old self.new }
+        ensures { OnlyLooks S.Shelf self.old self.new
+            (λ tables. IsAnswerTo tables command.now result) }
     {
-        match try_decide(&mut self.shelf, alloc, command) {
-            Ok(decided) => return decided,
-            Err(fault) => return Decided::from_refusal(alloc, shelf_refusal(fault)),
-        }
+        or_refusal(alloc, try_decide(&mut self.shelf, alloc, command))
     }
 
     /// Makes the changes of a decision in their order, all or none; where there are none, nothing
     /// is done. After a fault the tables of a database that is still open are as they were.
     pub fn apply(&mut self, alloc: Global, changes: &[RowChange]) -> Result<(), ShelfFault>
-        ensures clean { S.is_clean self.new → S.is_clean self.old }
-        ensures honest { S.is_honest self.new → S.is_honest self.old }
-        ensures open { S.is_clean self.new →
-            OnOk result (changes.now ≢ [] → S.is_honest self.new) }
-        ensures ok { OnOk result (S.is_honest self.new →
-            S.content self.new ≡ changed_by (S.content self.old) changes.now) }
-        ensures err { OnErr result (S.is_honest self.new →
-            S.content self.new ≡ S.content self.old) }
-        ensures undamaged { result ≢ Err ShelfFault.Damaged }
-        ensures written_ok { OnOk result
-            (S.written self.new ≡ counts_after (S.written self.old) changes.now) }
-        ensures written_err { OnErr result (S.written self.new ≡ S.written self.old) }
-        // A crash leaves what it could leave before the call, or the tables with all changes; once
-        // changes were made, the latter alone.
-        ensures crash { (tables : Content) → S.may_leave self.new tables →
-            S.may_leave self.old tables
-            ⊎ (S.is_honest self.old × (tables ≡ changed_by (S.content self.old) changes.now)) }
-        ensures settled { OnOk result (changes.now ≢ [] →
-            (tables : Content) → S.may_leave self.new tables → tables ≡ S.content self.new) }
-        ensures idle { changes.now ≡ [] → (self.new ≡ self.old) × (result ≡ Ok tt) }
+        ensures { AppliesRows S.Shelf changes.now result self.old self.new }
     {
         if changes.is_empty() {
             return Ok(());
         }
-        self.shelf.apply(alloc, changes)
-    }
-
-    /// Makes the changes of a decision, and gives its reply; Unavailable where they are refused.
-    pub(crate) fn make(&mut self, alloc: Global, decided: Decided) -> Reply
-        ensures { CarriesOut S.Shelf decided.reply decided.changes.items result self.old self.new }
-    {
-        match self.apply(alloc, decided.changes.as_slice()) {
-            Ok(()) => decided.reply,
-            Err(_fault) => Reply::Refused(Refusal::Unavailable),
-        }
+        self.shelf.apply(alloc, changes)?;
+        Ok(())
     }
 
     /// Runs one command: decides it, and makes its changes. Where memory or the shelf refuses, the
@@ -145,10 +97,40 @@ impl<S: Shelf> Office<S> {
     /// refusal changes nothing, unless a failure has shut the database: opened again, that may hold
     /// the changes.
     pub fn run(&mut self, alloc: Global, command: &Command) -> Reply
-        ensures ran { IsRun S.Shelf command.now result self.old self.new }
+        ensures { IsRun S.Shelf command.now result self.old self.new }
     {
         let decided = self.decide(alloc, command);
         self.make(alloc, decided)
+    }
+
+    /// Makes the changes of a decision, and gives its reply; Unavailable where they are refused.
+    pub(crate) fn make(&mut self, alloc: Global, decided: Decided) -> Reply
+        ensures { CarriesOut S.Shelf decided result self.old self.new }
+    {
+        match self.apply(alloc, decided.changes.as_slice()) {
+            Ok(()) => decided.reply,
+            Err(_fault) => Reply::Refused(Refusal::Unavailable),
+        }
+    }
+
+    /// Edits the plan of an intersection for a clerk, in one step: its draft is taken up, or begun
+    /// where nobody holds one, changed, and committed where that is asked for and it breaks no
+    /// rule; all of that or none. `Same` where the plan is the committed set and nobody holds a
+    /// draft; else `Moved`, in state Normal exactly where the plan was committed. A refusal changes
+    /// nothing: that of the first step that is refused, `UnknownIntersection`, Unavailable where
+    /// memory or the shelf refuses, or Damaged where a stored row of the plan is no record. A crash
+    /// leaves the office before the edit or after all of it, and after it alone once it is told.
+    pub fn revise(
+        &mut self,
+        alloc: Global,
+        id: InterId,
+        clerk: &Words<40>,
+        edit: &PlanEdit,
+    ) -> Reply
+        ensures { EditsPlan S.Shelf id clerk.now edit.now result self.old self.new }
+    {
+        let decided = decide_revision(&mut self.shelf, alloc, id, clerk, edit);
+        self.make(alloc, or_refusal(alloc, decided))
     }
 
     /// Runs commands in turn, and gives a reply for each, in their order; a refused command stops
@@ -156,8 +138,6 @@ impl<S: Shelf> Office<S> {
     pub fn run_all(&mut self, alloc: Global, commands: &[Command]) -> Result<Vec<Reply>, NoMemory>
         ensures ends { IfOk result (λ replies. MakesTables S.Shelf self.old self.new
             (λ tables. RunsAny tables commands.now replies.items)) }
-        ensures each { IfOk result (λ replies.
-            AreRun S.Shelf commands.now replies.items self.old self.new) }
         ensures clean { S.is_clean self.new → S.is_clean self.old }
         ensures honest { S.is_honest self.new → S.is_honest self.old }
         ensures err { OnErr result (self.new ≡ self.old) }
@@ -171,97 +151,57 @@ impl<S: Shelf> Office<S> {
     }
 
     /// What would come of each of these records, in their order, were they taken in turn; one that
-    /// would be refused leaves the office as it is to those after it. Nothing is stored. Where
-    /// memory or the shelf refuses, the error is Unavailable; where a stored row that is read is no
-    /// record, Damaged.
+    /// would be refused leaves the office as it is to those after it. Nothing is stored.
     pub fn check(
         &mut self,
         alloc: Global,
         records: &[RecordCommand],
     ) -> Result<Vec<Checked>, Refusal>
-        ensures checks { IfOk result (λ checked. S.is_honest self.new →
-            Checks (S.content self.old) records.now checked.items) }
-        ensures refused { RefusesRead result }
-        ensures damaged { result ≡ Err Refusal.Damaged → S.is_honest self.new →
-            MeetsImportDamage (S.content self.old) records.now }
-        ensures clean { S.is_clean self.new → S.is_clean self.old }
-        ensures kept { KeepsShelf S.Shelf self.old self.new }
+        ensures { OnlyLooks S.Shelf self.old self.new (λ tables. S.is_honest self.new →
+            Gives result (λ checked. Checks tables records.now checked.items)
+            (MeetsImportDamage tables records.now)) }
     {
-        match check_records(&mut self.shelf, alloc, records) {
-            Ok(checked) => return Ok(checked),
-            Err(fault) => return Err(shelf_refusal(fault)),
-        }
+        check_records(&mut self.shelf, alloc, records).map_err(shelf_refusal)
     }
 
     /// The first `most` of the intersections that are overdue for an inspection on a day, in
-    /// ascending order of their numbers: the first rows that the query Overdue shows. Where memory
-    /// or the shelf refuses, the error is Unavailable; where the row of any intersection or
-    /// inspection is no record, Damaged.
+    /// ascending order of their numbers: the first rows that the query Overdue shows.
     pub fn overdue_first(
         &mut self,
         alloc: Global,
         day: Day,
         most: usize,
     ) -> Result<Vec<OverdueRow>, Refusal>
-        ensures rows { IfOk result (λ found. S.is_honest self.new → (office : OfficeState) →
-            StandForSound (S.content self.old) office →
-            map listed_of found.items ≡ take most (overdue_on office day)) }
-        ensures refused { RefusesRead result }
-        ensures damaged { result ≡ Err Refusal.Damaged → S.is_honest self.new →
-            MeetsDamage (S.content self.old) (Command.Overdue day) }
-        ensures clean { S.is_clean self.new → S.is_clean self.old }
-        ensures shut { S.is_clean self.new →
-            S.is_honest self.new ⊎ (result ≡ Err Refusal.Unavailable) }
-        ensures kept { KeepsShelf S.Shelf self.old self.new }
+        ensures { OnlyLooks S.Shelf self.old self.new (λ tables. Gives result
+            (λ found. (office : OfficeState) → StandForSound tables office →
+            map listed_of found.items ≡ take most (overdue_on office day))
+            (MeetsDamage tables (Command.Overdue day))) }
     {
-        match self.shelf.overdue_rows(alloc, day, most) {
-            Ok(found) => return Ok(found),
-            Err(fault) => return Err(shelf_refusal(fault)),
-        }
+        self.shelf
+            .overdue_rows(alloc, day, most)
+            .map_err(shelf_refusal)
     }
 
-    /// All intersections, in ascending order of their numbers. The row of each is read, and the
-    /// rows of its committed timing set are counted, not read. Where memory or the shelf refuses,
-    /// the error is Unavailable; where the row of an intersection is no record, Damaged.
+    /// All intersections, in ascending order of their numbers, one for each row of their table, even
+    /// where the tables stand for no office. The rows of a committed timing set are counted, not
+    /// read.
     pub fn intersections(&mut self, alloc: Global) -> Result<Vec<ListedIntersection>, Refusal>
-        ensures all { IfOk result (λ found. S.is_honest self.new → (office : OfficeState) →
-            StandForSound (S.content self.old) office → found.items ≡ intersections_of office) }
-        // There is one for each row of the table of intersections, even where the tables stand for
-        // no office.
-        ensures lists { IfOk result (λ found. S.is_honest self.new →
-            ListsEachIntersection (S.content self.old) found.items) }
-        ensures refused { RefusesRead result }
-        ensures damaged { result ≡ Err Refusal.Damaged → S.is_honest self.new →
-            HasAnyDamagedIntersection (S.content self.old) }
-        ensures clean { S.is_clean self.new → S.is_clean self.old }
-        ensures shut { S.is_clean self.new →
-            S.is_honest self.new ⊎ (result ≡ Err Refusal.Unavailable) }
-        ensures kept { KeepsShelf S.Shelf self.old self.new }
+        ensures { OnlyLooks S.Shelf self.old self.new (λ tables. Gives result
+            (λ found. ListsEachIntersection tables found.items × ((office : OfficeState) →
+            StandForSound tables office → found.items ≡ intersections_of office))
+            (HasAnyDamagedIntersection tables)) }
     {
-        match list_intersections(&mut self.shelf, alloc) {
-            Ok(found) => return Ok(found),
-            Err(fault) => return Err(shelf_refusal(fault)),
-        }
+        list_intersections(&mut self.shelf, alloc).map_err(shelf_refusal)
     }
 
     /// The open orders on each intersection that has any, under its number, in ascending order of
-    /// their own numbers. It is one walk over all orders. Where memory or the shelf refuses, the
-    /// error is Unavailable; where the row of any order is no record, Damaged.
+    /// their own numbers. It is one walk over all orders.
     pub fn open_orders(&mut self, alloc: Global) -> Result<BTreeMap<InterId, Vec<Order>>, Refusal>
-        ensures orders { IfOk result (λ found. S.is_honest self.new → (office : OfficeState) →
-            StandForSound (S.content self.old) office → (id : ℕ) →
-            orders_in found.entries id ≡ filter is_open (records_at id office.register.orders)) }
-        ensures refused { RefusesRead result }
-        ensures damaged { result ≡ Err Refusal.Damaged → S.is_honest self.new →
-            HasAnyDamagedOrder (S.content self.old) }
-        ensures clean { S.is_clean self.new → S.is_clean self.old }
-        ensures shut { S.is_clean self.new →
-            S.is_honest self.new ⊎ (result ≡ Err Refusal.Unavailable) }
-        ensures kept { KeepsShelf S.Shelf self.old self.new }
+        ensures { OnlyLooks S.Shelf self.old self.new (λ tables. Gives result
+            (λ found. (office : OfficeState) → StandForSound tables office → (id : ℕ) →
+            orders_in found.entries id ≡ filter is_open (records_at id office.register.orders))
+            (HasAnyDamagedOrder tables)) }
     {
-        match self.shelf.open_orders(alloc) {
-            Ok(found) => return Ok(found),
-            Err(fault) => return Err(shelf_refusal(fault)),
-        }
+        self.shelf.open_orders(alloc).map_err(shelf_refusal)
     }
 }

@@ -1,6 +1,5 @@
 //! What people read of an office: queries, each answered by a type of its own.
-ghost use Rattle.office_desk.specs.Asks.{ReadsOffice, reply_to};
-ghost use Rattle.office_desk.specs.Changes.{IsQueryCommand};
+ghost use Rattle.office_desk.specs.{Asks.ReadsOffice, Asks.reply_to, Changes.IsQueryCommand};
 
 use crate::office::Office;
 use office_machine::command::Command;
@@ -19,7 +18,10 @@ impl<S: Shelf> Office<S> {
     /// The reply to a query, which is taken, so that a caller has none to drop.
     fn ask(&mut self, alloc: Global, query: Command) -> Reply
         requires { IsQueryCommand query }
-        ensures { ReadsOffice S.Shelf self.old self.new query result }
+        ensures replied { ReadsOffice S.Shelf self.old self.new query result }
+        // So Unavailable may be told for a reply of another kind, which never comes.
+        ensures otherwise { ReadsOffice S.Shelf self.old self.new query
+            (Reply.Refused Refusal.Unavailable) }
     {
         let decided = self.decide(alloc, &query);
         decided.reply

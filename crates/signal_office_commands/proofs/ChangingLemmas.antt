@@ -1,11 +1,10 @@
 -- Changes of an office, and calls after them that only ask it.
 use Rattle.std.proofs.Common.{◌≡◌, ◌∙◌, inl, inr, Result, subst}
-use Rattle.office_desk.proofs.Looks.{still_held}
-use Rattle.office_desk.specs.{Asks.OnlyLooks, Running.IsRun, Running.TakesEffect}
-use Rattle.office_desk.proofs.Looks.{still_held}
+use Rattle.office_desk.proofs.{Looks.still_held, Runs.done_clean, Runs.done_honest, Runs.run_makes, Runs.run_stops}
+use Rattle.office_desk.specs.{Asks.OnlyLooks, Running.IsRun}
 use Rattle.office_machine.specs.declared.{command.Command.Command, reply.Reply.Reply}
 use Rattle.office_tables_shelf.specs.{Content.Content, declared.shelf.Shelf.Ghosts}
-use Rattle.signal_office_commands.specs.Changing.{AfterStep, Changes, ChangesShelf, RunsCommand, WasAnswered, accept_reply}
+use Rattle.signal_office_commands.specs.Changing.{AfterStep, Changes, ChangesShelf, RunsCommand, accept_reply}
 use Rattle.signal_office_faults.specs.declared.fault.Fault.{Fault}
 
 module _ {S : Type 0} {g : Ghosts S} where
@@ -65,25 +64,15 @@ module _ {S : Type 0} {g : Ghosts S} where
     stop = λ clean tables held found may. inl (it.kept.same_outcomes found may);
   }
 
-  -- what took effect is a change
-  pub effect_changes : {old new : S} {Answers : Content → Reply → Content → Type 0} {Meets : Content → Type 0} {After : Content → Content → Type 0} {given : Reply}
-      → TakesEffect g Answers Meets After given old new → ChangesShelf g old new (λ tables made. WasAnswered Answers Meets tables given made) After
-  effect_changes {After = After} it = record {
-    clean = it.clean;
-    honest = it.honest;
-    makes = λ clean tables held.
-        let ends = it.ends clean tables held in
-        (ends.0, record { step = ends.1; damaged = λ told. it.damaged told clean tables held }, ends.2);
-    stop = λ clean tables held found may. elim (it.crash found may) [
-      | inl was ↦ inl was
-      | inr after ↦ inr (subst (λ t. After t found) (held after.0) after.1)
-    ];
-  }
-
   -- a command was run, and its reply is taken so
   pub runs_command : {old new : S} (asked : Command) (given : Reply) (result : Result Reply Fault) → result ≡ accept_reply given → IsRun g asked given old new
       → ChangesShelf g old new (λ tables made. RunsCommand asked tables made result) (AfterStep asked)
-  runs_command asked given result is ran = changes_weaker (effect_changes ran.step) (λ tables made it. (given, it, is)) (λ tables found after. after)
+  runs_command asked given result is ran = record {
+    clean = done_clean ran;
+    honest = done_honest ran;
+    makes = λ clean tables held. let made = run_makes ran clean tables held in (made.0, (given, made.1, is), made.2);
+    stop = run_stops ran;
+  }
 
   -- a command that was run is a change, of whatever it is seen as
   pub runs_change : {old new : S} {A : Type 0} {made asked : A} (command : A → Command) (result : Result Reply Fault) → made ≡ asked

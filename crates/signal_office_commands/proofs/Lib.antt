@@ -1,4 +1,3 @@
 pub mod FaultLemmas
-mod LookLemmas
 pub mod ChangingLemmas
 mod EditingLemmas

@@ -1,13 +1,11 @@
 -- Commands that change an office: what they make of its tables, and what a stop leaves.
 use Rattle.std.specs.Prelude.{◌≡◌, ◌⊎◌, ℕ, List, Result, Ok, Err}
 use Rattle.cabinet_core.specs.declared.command.RecordCommand.{RecordCommand}
-use Rattle.office_desk.specs.Answers.{AnswersAny, StandsAfterStep}
-use Rattle.office_desk.specs.Damage.{MeetsDamage}
-use Rattle.office_desk.specs.Running.{MakesTables, TellsTables}
+use Rattle.office_desk.specs.Answers.{StandsAfterStep}
+use Rattle.office_desk.specs.Running.{Answered, MakesTables, StopLeaves}
 use Rattle.office_files.specs.Records.{commands_of}
 use Rattle.office_machine.specs.declared.command.Command.{Command}
 use Rattle.office_machine.specs.declared.command.Command.TheVariants as command
-use Rattle.office_machine.specs.declared.refusal.Refusal.TheVariants.{Damaged}
 use Rattle.office_machine.specs.declared.reply.Reply.{Reply}
 use Rattle.office_machine.specs.declared.reply.Reply.TheVariants as reply
 use Rattle.office_tables_shelf.specs.Content.{Content}
@@ -16,11 +14,6 @@ use Rattle.signal_office_commands.specs.Refused.{IsUnread, fault_of}
 use Rattle.signal_office_faults.specs.declared.done.Done.{Done}
 use Rattle.signal_office_faults.specs.declared.fault.Fault.{Fault}
 use Rattle.signal_office_faults.specs.declared.fault.Fault.TheVariants as told
-
--- On a clean disk a stop leaves only what it could leave before, or tables that are After those that an open database held before.
-abbrev pub StopLeaves : {S : Type 0} → Ghosts S → (old new : S) → (Content → Content → Type 0) → Type 0
-StopLeaves g old new After =
-    TellsTables g old new (λ tables. (found : Content) → g.may_leave new found → g.may_leave old found ⊎ After tables found)
 
 -- An office was changed: nothing makes a disk clean again, or opens a database that a failure had shut; on a clean disk the tables are Made of those that an open
 -- database held before; and a stop leaves what it could leave before, or tables that are After those.
@@ -35,15 +28,6 @@ abbrev pub AfterStep : Command → Content → Content → Type 0
 AfterStep asked old found = StandsAfterStep old asked found
 
 -- ---- one command
-
--- The office answered what was asked, and Damaged is replied only where a row Meets damage.
-pub record WasAnswered (Answers : Content → Reply → Content → Type 0) (Meets : Content → Type 0) (old : Content) (given : Reply) (new : Content) : Type 0 where
-  pub step : Answers old given new
-  pub damaged : given ≡ reply.Refused Damaged → Meets old
-
--- a command, whichever sound office the tables stood for
-abbrev pub Answered : Content → (asked : Command) → (given : Reply) → Content → Type 0
-Answered old asked given new = WasAnswered (λ tables. AnswersAny tables asked) (λ tables. MeetsDamage tables asked) old given new
 
 -- a reply that is taken as it is, or the fault of a refusal
 abbrev pub accept_reply : Reply → Result Reply Fault

@@ -3,14 +3,13 @@ use Rattle.std.specs.Prelude.{◌≡◌, ◌⊎◌, ◌==◌, ℕ, Bool, true, i
 use Rattle.std.specs.Result.{result_ok}
 use Rattle.draft_core.specs.declared.timing.Reach.TheVariants.{Plan}
 use Rattle.office_desk.specs.Asks.{IsReply, reply_to}
-use Rattle.office_desk.specs.{Damage.HasDamageIn, Editing.AfterEdit}
+use Rattle.office_desk.specs.{Damage.HasDamageIn, Editing.AfterEdit, Running.WasAnswered}
 use Rattle.office_desk_timing.specs.{Revising.AnswersAnyEdit, declared.revising.PlanEdit.PlanEdit}
 use Rattle.office_files.specs.Changes.{changes_of}
 use Rattle.office_machine.specs.declared.command.Command.TheVariants as command
 use Rattle.office_machine.specs.{declared.refusal.Refusal.Refusal, declared.reply.OpenDraft.OpenDraft, declared.reply.Reply.Reply, declared.reply.RunningTiming.RunningTiming}
 use Rattle.office_machine.specs.declared.reply.Reply.TheVariants as reply
 use Rattle.office_tables_shelf.specs.Content.{Content}
-use Rattle.signal_office_commands.specs.Changing.{WasAnswered}
 use Rattle.signal_office_commands.specs.Refused.{IsUnread, fault_of}
 use Rattle.signal_office_commands.specs.{declared.editing.Edited.Edited, declared.editing.Revised.Revised}
 use Rattle.signal_office_commands.specs.declared.editing.Revised.TheVariants.{Same, Open, Committed}

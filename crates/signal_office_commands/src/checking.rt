@@ -1,5 +1,5 @@
 //! Records of a CSV file that are only tried, not taken.
-#![tactic(auto, using(office_desk::proofs::Looks::keeps_none, crate::proofs::LookLemmas::keeps_shelf))]
+#![tactic(auto, using(office_desk::proofs::Looks::keeps, office_desk::proofs::Looks::keeps_none))]
 
 ghost use Rattle.office_desk.specs.Asks.{KeepsOffice};
 

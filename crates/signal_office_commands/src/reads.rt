@@ -1,5 +1,5 @@
 //! What the program reads of an office. A refused read gives the fault that reports the refusal.
-#![tactic(auto, using(office_desk::proofs::Looks::keeps, office_desk::proofs::Looks::keeps_none, crate::proofs::LookLemmas::keeps_shelf))]
+#![tactic(auto, using(office_desk::proofs::Looks::keeps, office_desk::proofs::Looks::keeps_none))]
 
 ghost use Rattle.office_desk.specs.Asks.{KeepsOffice};
 

@@ -1,6 +1,6 @@
 -- What a stop leaves of work over the tables of a file: of a task, and of requests that are answered.
 use Rattle.std.specs.Prelude.{◌≡◌, ◌⊎◌, ℕ, List, ◌∷◌, Result, ⊤}
-use Rattle.office_desk.specs.Running.{TellsTables}
+use Rattle.office_desk.specs.Asks.{TellsTables}
 use Rattle.office_desk.specs.StandFor.{StandForSound}
 use Rattle.office_http.specs.Laws.{KeepsLaws}
 use Rattle.office_http.specs.Protocol.{office_protocol, office_storage}

@@ -1,33 +1,24 @@
-use Rattle.std.proofs.Common.{◌∙◌, ℕ, List, ap, inl, inr, refl, sym}
+use Rattle.std.proofs.Common.{◌∙◌, inl, inr, refl, sym}
 use Rattle.std.specs.FinMap.{get}
-use Rattle.office_machine.specs.declared.reply.Reply.TheVariants.{OpenOrders}
 use Rattle.office_tables_decisions.proofs.Decisions.{handed_decides, told_decides, unknown_decides}
 use Rattle.office_desk.proofs.Recorded.{none_there, orders_show}
 use Rattle.office_desk.proofs.register_showing.decide_open_orders.Goals as goal
 
-pub returns-then-not-known-clause-decides : goal.returns-then-not-known-clause-decides
-returns-then-not-known-clause-decides g c =
-    let gone = c.if-not-known.true in
-    let known = c.in_ok-known.ensures in
+pub returns-then-not-branch-clause-decides : goal.returns-then-not-branch-clause-decides
+returns-then-not-branch-clause-decides g c =
     unknown_decides _ _ _ _ c.from_refusal.ensures.reply (inl refl) c.from_refusal.ensures.no_changes
-    (λ honest office stands. rw (none_there (get office.intersections c.args.id) (sym gone ∙ (known.tells honest).known office stands)))
+    (λ honest office stands. rw (none_there (get office.intersections c.args.id) (sym c.if-not-branch.true ∙ (c.in_ok-is_known.ensures.tells honest).known office stands)))
 
 pub returns-clause-decides : goal.returns-clause-decides
 returns-clause-decides g c =
-    let known = c.in_ok-known.ensures in
-    let list = c.in_ok-list.ensures in
-    told_decides _ _ _ _ _
-    (c.from_reply.ensures.reply ∙ ap (λ (numbers : List ℕ). OpenOrders numbers) c.new-numbers.ensures)
-    (λ e. cc) (λ why e. absurd cc) c.from_reply.ensures.no_changes
+    told_decides _ _ _ _ _ (rw c.new-numbers.ensures at c.from_reply.ensures.reply) (λ e. cc) (λ why e. absurd cc) c.from_reply.ensures.no_changes
     (λ honest office stands.
     let first = c.open_orders.ensures.reads.kept.honest_before honest in
-    orders_show _ office c.args.id _ stands (λ other at. sym c.if-not-known.false ∙ (known.tells first).known other at)
-    (rw (c.is_known.ensures.reads.kept.same_content first) at (list.shows honest)))
+    orders_show _ office c.args.id _ stands (λ other at. sym c.if-not-branch.false ∙ (c.in_ok-is_known.ensures.tells first).known other at)
+    (rw (c.is_known.ensures.reads.kept.same_content first) at (c.in_ok-list.ensures.shows honest)))
 
 pub returns-in_err-list-clause-decides : goal.returns-in_err-list-clause-decides
 returns-in_err-list-clause-decides g c =
-    handed_decides _ _ _ _ _ c.from_residual-in_err-list.ensures.1
-    (λ damaged honest.
+    handed_decides _ _ _ _ _ c.from_residual-in_err-list.ensures.1 (λ damaged honest.
     let first = c.open_orders.ensures.reads.kept.honest_before honest in
-    let known = sym c.if-not-known.false ∙ (c.in_ok-known.ensures.tells first).told in
-    inr (sym known, rw (c.is_known.ensures.reads.kept.same_content first) at (c.in_err-list.ensures.shows damaged honest)))
+    inr (sym (sym c.if-not-branch.false ∙ (c.in_ok-is_known.ensures.tells first).told), rw (c.is_known.ensures.reads.kept.same_content first) at (c.in_err-list.ensures.shows damaged honest)))

@@ -1,18 +1,8 @@
-use Rattle.std.proofs.Common.{inl}
-use Rattle.office_desk.proofs.Edits.{fault_edit, made_edit}
+use Rattle.office_desk.proofs.Edits.{edit_look}
 use Rattle.office_desk.proofs.office.Office.revise.Goals as goal
 
-pub returns-in-Ok : goal.returns-in-Ok
-returns-in-Ok g c =
-    let reads = c.in-Ok.ensures.reads in
-    rw (← c.self.view_is)
-    (made_edit g.S.Shelf c.args.id c.args.clerk.now c.args.edit.now c.in-Ok.decided.reply c.in-Ok.decided.changes.items
-    c.self.inside.shelf c.decide_revision.new.shelf reads.kept c.in-Ok.ensures.decides reads.clean_before
-    (λ clean. inl (reads.read tt clean tt)) c.make.ensures)
-
-pub returns-in-Err : goal.returns-in-Err
-returns-in-Err g c =
-    let reads = c.in-Err.ensures.reads in
-    rw (← c.self.view_is, c.shelf_refusal.ensures)
-    (fault_edit g.S.Shelf c.args.id c.args.clerk.now c.args.edit.now c.in-Err.fault c.self.inside.shelf c.decide_revision.new.shelf
-    reads.kept reads.clean_before c.in-Err.ensures.decides (λ damaged clean. reads.read tt clean damaged))
+pub returns : goal.returns
+returns g c =
+    let read = c.decide_revision-decided.ensures in
+    let decided = edit_look c.args.id c.args.clerk.now c.args.edit.now g.S.Shelf _ c.or_refusal.result _ _ read.reads c.or_refusal.ensures read.decides in
+    rw (← c.self.view_is) (record { decided = _; mid = _; looks = decided; carried = c.make.ensures })
