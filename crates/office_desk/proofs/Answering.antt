@@ -49,7 +49,7 @@ decided_look g command (Ok decided) given old new reads is decides nothing = loo
   refused = decides.refused;
   query = decides.query;
   named = λ why told. inr (inr (decides.named why told));
-  damaged = λ told. absurd (decides.undamaged told);
+  damaged = λ told. absurd (decides.damaged told);
 }))
 decided_look g command (Err Damaged) given old new reads is decides nothing =
     looks_open reads.kept reads.clean_before (λ clean. reads.read nothing clean refl) (λ honest.

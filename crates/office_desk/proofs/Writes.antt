@@ -1,7 +1,7 @@
 -- How many rows changes write of each table, by the counts of the shelf and by kind of command.
 use Rattle.std.proofs.Common.{◌≡◌, ◌≤◌, ◌+◌, ℕ, List, [], ◌∷◌, arith}
 use Rattle.cabinet_core.specs.declared.command.RecordCommand.{RecordCommand}
-use Rattle.office_tables_shelf.specs.Counts.{count_of, counts_after, writes_in}
+use Rattle.office_tables_shelf.specs.Counts.{count_of, count_at, counts_after, writes_in}
 use Rattle.office_tables_shelf.proofs.CountLemmas.{one_more}
 use Rattle.office_tables_shelf.specs.{Change.row_writes, Change.table_of, Content.Content, declared.counts.WriteCounts.WriteCounts, declared.rows.RowChange.RowChange, declared.rows.Table.Table}
 use Rattle.office_tables_decisions.specs.RecordBounds.{most_record_writes}
