@@ -46,10 +46,10 @@ fn stays(alloc: Global, timing: &Timing, holder: Holding, verdict: Verdict) -> M
 pub fn begin(alloc: Global, timing: &Timing, _clerk: &Words<40>) -> Result<Move, DraftRefusal>
     ensures { Takes Step.Begin timing.now _clerk.now result }
 {
-    match &timing.holder {
-        None => Ok(stays(alloc, timing, Holding::Begun, Verdict::NotDone)),
-        Some(_) => Err(DraftRefusal::NotNormal),
-    }
+    let None = &timing.holder else {
+        return Err(DraftRefusal::NotNormal);
+    };
+    Ok(stays(alloc, timing, Holding::Begun, Verdict::NotDone))
 }
 
 /// Makes changes to the draft. A draft row is kept of each key at which the draft then differs from

@@ -10,17 +10,6 @@ use crate::refusal::DraftRefusal;
 use crate::state::{DbState, Holder, Holding, Stage};
 use signal_records::{NoMemory, Words};
 
-/// The state of the transaction while a clerk holds the draft in this stage.
-fn in_stage(stage: Stage) -> DbState
-    ensures { result ≡ table.in_stage stage }
-{
-    match stage {
-        Stage::Transaction => DbState::Transaction,
-        Stage::Verify => DbState::Verify,
-        Stage::Done => DbState::Done,
-    }
-}
-
 /// The test of a command that only the owner may give, in one stage. It is refused with `wrong` where
 /// there is no draft or one in another stage, then with `NotOwner` where another clerk holds it.
 pub(crate) fn test_owner(
@@ -62,8 +51,9 @@ pub(crate) fn state_after(step: Holding) -> DbState
     ensures { result ≡ moves.state_after step }
 {
     match step {
-        Holding::Begun => DbState::Transaction,
-        Holding::Kept(stage) => in_stage(stage),
+        Holding::Begun | Holding::Kept(Stage::Transaction) => DbState::Transaction,
+        Holding::Kept(Stage::Verify) => DbState::Verify,
+        Holding::Kept(Stage::Done) => DbState::Done,
         Holding::Dropped => DbState::Normal,
     }
 }

@@ -5,8 +5,8 @@ use Rattle.draft_core.specs.{Moves.Follows, Revising.base_from, Transaction.begu
 use Rattle.draft_core.proofs.{Drafts.nothing_drafted, Lines.free_of, Makes.draft_makes, News.idle_writes}
 use Rattle.draft_core.proofs.decide.begin.Goals as goal
 
-pub returns-in-None : goal.returns-in-None
-returns-in-None c =
+pub returns : goal.returns
+returns c =
     let clerk = c.args._clerk.now in
     record {
       line = λ rows side stands relies.
