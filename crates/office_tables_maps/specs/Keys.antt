@@ -1,7 +1,7 @@
 -- The keys that rows have beside their intersection: their cells, how they compare, and the first and the last of them.
-use Rattle.std.proofs.Common.{◌≡◌, ◌≤◌, ℕ, pos, true, false, List, [], ◌∷◌, Ordering, nat_cmp, refl, sym, ap, ◌∙◌, arith, true≢false}
+use Rattle.std.proofs.Common.{◌≡◌, ℕ, pos, true, false, List, [], ◌∷◌, Ordering, nat_cmp, refl, sym, ◌∙◌, arith}
 use Rattle.std.proofs.lemmas.{Bool.Decides.nat_tests, Map.Lookups.CmpEqualImpliesEq, Map.Lookups.exact_pairs, Map.Lookups.exact_unsigned}
-use Rattle.std.specs.{Int.IsInRange, Ordering.is_le, Ordering.is_lt, Ordering.ordering_then, declared.cmp.Ordering.TheVariants.Less, declared.cmp.Ordering.TheVariants.Equal, declared.cmp.Ordering.TheVariants.Greater}
+use Rattle.std.specs.{Int.IsInRange, Ordering.is_le, Ordering.is_lt, Ordering.ordering_then, declared.cmp.Ordering.TheVariants.Equal}
 use Rattle.signal_records.specs.{Key.kind_of, Key.first_of, Key.second_of, Key.key_cmp, KeyOrder.key_exact, Within.IsKeyWithin, Within.current_limits, declared.key.Key.Key, declared.key.Key.TheVariants.Phase, declared.key.Key.TheVariants.Pattern}
 use Rattle.office_tables_shelf.specs.Cells.{Cell, number, cell_cmp, cells_cmp}
 use Rattle.office_tables_shelf.proofs.TreeLemmas.{number_order, ranged_cmp, then_last}
