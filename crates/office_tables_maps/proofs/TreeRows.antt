@@ -1,5 +1,5 @@
 -- Trees of records: the rows in their order, those that pass a test, and each record under its own place.
-use Rattle.std.proofs.Common.{◌≡◌, inl, inr, Bool, List, [], ◌∷◌, ◌++◌, true, false, map, filter, cond, Option, Some, None, IfSome, Ordering, T, refl, sym, ap, subst, subst₂, ◌∙◌, append_assoc}
+use Rattle.std.proofs.Common.{◌≡◌, inl, inr, Bool, List, [], ◌∷◌, ◌++◌, true, false, map, filter, cond, Option, None, IfSome, Ordering, T, refl, sym, ap, subst, ◌∙◌, append_assoc}
 use Rattle.std.proofs.{lemmas.Bool.cases_Bool}
 use Rattle.std.specs.{BTreeMap.insert_entry, BTreeMap.is_at, FinMap.entries, FinMap.get, Option.option_map, FinMap.retain_keys, FinMap.get-retain_keys, FinMap.same_map, FinMap.Entries.is_sorted, FinMap.Entries.below_all, FinMap.Entries.find-where_key, List.AllByRecursion, List.Sorted.IsStrictlySortedBy, Map.keys_of, Map.lookup, Map.remove_entry, Cmp.IsTotalOrder, Ordering.ordering_reverse, Ordering.is_eq, Ordering.is_lt, Ordering.match_ordering, declared.cmp.Ordering.TheVariants.Less, declared.cmp.Ordering.TheVariants.Equal, declared.cmp.Ordering.TheVariants.Greater}
 use Rattle.office_tables_shelf.specs.Cells.{Cell, rows_by, tree_rows, cells_cmp}

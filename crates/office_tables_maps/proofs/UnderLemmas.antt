@@ -1,9 +1,9 @@
 -- What an intersection has in a tree, and what is found between its places.
-use Rattle.std.proofs.Common.{◌≡◌, inl, inr, ℕ, ◌==◌, ◌&&◌, true, false, eqb-true, not, List, [], ◌∷◌, ◌++◌, map, filter, None, Ordering, refl, sym, ap, ◌∙◌, append-nil, arith}
+use Rattle.std.proofs.Common.{◌≡◌, inl, inr, ℕ, ◌==◌, true, false, eqb-true, not, List, [], ◌∷◌, ◌++◌, map, filter, None, Ordering, refl, sym, ap, ◌∙◌, append-nil, arith}
 use Rattle.std.proofs.lemmas.{Bool.cases_Bool, Bool.Decides.nat_tests, Cmp.nat_cmp_total, List.Elements.filter_agree}
-use Rattle.std.specs.{Cmp.tied_itself, Ordering.nat_cmp, BTreeMap.Range.entries_between, BTreeMap.Range.range_contains, FinMap.entries, FinMap.Entries.where_key, List.AllByRecursion, List.Sorted.IsStrictlySortedBy, Map.keys_of, Ordering.is_eq, Ordering.is_gt, Ordering.is_le, Ordering.is_lt, Ordering.ordering_then, declared.ops.Bound.TheVariants.Included, declared.cmp.Ordering.TheVariants.Less, declared.cmp.Ordering.TheVariants.Equal, declared.cmp.Ordering.TheVariants.Greater}
+use Rattle.std.specs.{Cmp.tied_itself, Ordering.nat_cmp, BTreeMap.Range.entries_between, BTreeMap.Range.range_contains, FinMap.entries, FinMap.Entries.where_key, List.AllByRecursion, List.Sorted.IsStrictlySortedBy, Map.keys_of, Ordering.is_gt, Ordering.is_le, Ordering.ordering_then, declared.ops.Bound.TheVariants.Included, declared.cmp.Ordering.TheVariants.Less, declared.cmp.Ordering.TheVariants.Equal, declared.cmp.Ordering.TheVariants.Greater}
 use Rattle.office_tables_shelf.specs.{CabinetReads.IsOfOne, Cells.Cell, Cells.cells_cmp, Content.Content, Content.is_of, Content.rows_at, Content.rows_but, Reads.HasDamagedRow, Shelf.rows_of, declared.rows.Table.Table}
-use Rattle.office_tables_shelf.proofs.{CabinetLemmas.of_number, ListLemmas.cells_of, ListLemmas.where_all, ListedRows.listed_whole, NumberedMaps.number_test, TreeLemmas.ranged_cmp, TreeLemmas.then_last}
+use Rattle.office_tables_shelf.proofs.{CabinetLemmas.of_number, ListLemmas.cells_of, ListLemmas.where_all, ListedRows.listed_whole, TreeLemmas.then_last}
 use Rattle.office_tables_maps.specs.{Keys.AreKeyLaws, Keys.Keys, Keys.beside, Records.under, Records.under_laws, Stored.ArePlaced, Stored.Stored, Stored.stored_rows}
 use Rattle.office_tables_maps.proofs.TreeRows.{rows_kept, tree_entries}
 

@@ -1,5 +1,5 @@
 -- What a walk over all records has found so far, with what is left to it.
-use Rattle.std.proofs.Common.{◌≡◌, ◌==◌, ◌++◌, ℕ, true, false, cond, if◌then◌else◌, List, [], ◌∷◌, filter, Option, Some, None, refl, arith, append_assoc}
+use Rattle.std.proofs.Common.{◌≡◌, ◌==◌, ◌++◌, ℕ, if◌then◌else◌, List, [], ◌∷◌, filter, Option, Some, None, refl, arith, append_assoc}
 use Rattle.std.proofs.lemmas.{Bool.Decides.nat_tests, List.Elements.filter-append}
 use Rattle.cabinet_core.specs.{Orders.is_open, Overdue.greater, Overdue.latest_day, declared.record.Inspection.Inspection, declared.record.Order.Order}
 use Rattle.office_tables_maps.proofs.UnderLemmas.{records_of}

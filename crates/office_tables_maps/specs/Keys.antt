@@ -1,7 +1,7 @@
 -- The keys that rows have beside their intersection: their cells, how they compare, and the first and the last of them.
-use Rattle.std.proofs.Common.{◌≡◌, ◌≤◌, ℕ, pos, true, false, List, [], ◌∷◌, Ordering, nat_cmp, refl, sym, ap, ◌∙◌, arith, true≢false}
+use Rattle.std.proofs.Common.{◌≡◌, ℕ, pos, true, false, List, [], ◌∷◌, Ordering, nat_cmp, refl, sym, ◌∙◌, arith}
 use Rattle.std.proofs.lemmas.{Bool.Decides.nat_tests, Map.Lookups.CmpEqualImpliesEq, Map.Lookups.exact_pairs, Map.Lookups.exact_unsigned}
-use Rattle.std.specs.{Int.IsInRange, Ordering.is_le, Ordering.is_lt, Ordering.ordering_then, declared.cmp.Ordering.TheVariants.Less, declared.cmp.Ordering.TheVariants.Equal, declared.cmp.Ordering.TheVariants.Greater}
+use Rattle.std.specs.{Int.IsInRange, Ordering.is_le, Ordering.is_lt, Ordering.ordering_then, declared.cmp.Ordering.TheVariants.Equal}
 use Rattle.signal_records.specs.{Key.kind_of, Key.first_of, Key.second_of, Key.key_cmp, KeyOrder.key_exact, Within.IsKeyWithin, Within.current_limits, declared.key.Key.Key, declared.key.Key.TheVariants.Phase, declared.key.Key.TheVariants.Pattern}
 use Rattle.office_tables_shelf.specs.Cells.{Cell, number, cell_cmp, cells_cmp}
 use Rattle.office_tables_shelf.proofs.TreeLemmas.{number_order, ranged_cmp, then_last}
@@ -22,8 +22,6 @@ pub record AreKeyLaws {K : Type 0} (R : K → K → Ordering) (keys : Keys K) : 
   pub to_last : (k : K) → keys.is_key k → is_lt (R keys.last k) ≡ false
   pub last_is_key : keys.is_key keys.last
 
--- ---- numbers of keys
-
 -- the last or only number of a key is ordered as a number of a range
 pub last_order : (a b : ℕ) → cells_cmp (number (pos a) ∷ []) (number (pos b) ∷ []) ≡ ranged_cmp a b
 last_order a b i = ordering_then (number_order a b i) Equal
@@ -36,13 +34,9 @@ ranged_order a b = number_order a b ∙ sym (then_last (nat_cmp a b))
 pub number_exact : CmpEqualImpliesEq ranged_cmp
 number_exact a b tie = exact_unsigned a b (sym (then_last (nat_cmp a b)) ∙ tie)
 
--- ---- two parts of a key
-
 -- a number, and another part beside it
 abbrev pub beside : {K : Type 0} → (K → K → Ordering) → ℕ × K → ℕ × K → Ordering
 beside R a b = ordering_then (ranged_cmp a.0 b.0) (R a.1 b.1)
-
--- ---- the keys
 
 -- keys of a plan: kind and two numbers, from phase 1 to pattern 48
 abbrev pub plan_keys : Keys Key

@@ -9,16 +9,14 @@ use Rattle.office_tables_shelf.proofs.{CabinetLemmas.part_cmp, CabinetLemmas.par
 use Rattle.office_tables_maps.specs.Keys.{AreKeyLaws, Keys, beside, last_order, number_exact, ranged_order}
 use Rattle.office_tables_maps.specs.Stored.{AreLaws, Places, Stored}
 
--- ---- records of intersections, each under the number and a key that it names
-
--- such places
+-- places of records of intersections, each under the number and a key that the record names
 abbrev pub under : {K : Type 0} → Keys K → Places (ℕ × K)
 under keys = record {
   cells = λ k. number (pos k.0) ∷ keys.cells k.1;
   is_place = λ k. IsInRange 1 9999 k.0 × keys.is_key k.1;
 }
 
--- their cells are ordered as they are, and they tie only where they are equal
+-- they are ordered by their cells, and equal keys are one place
 pub under_laws : {K : Type 0} {R : K → K → Ordering} {keys : Keys K} → AreKeyLaws R keys
     → AreLaws (beside R) (under keys)
 under_laws {R = R} laws = record {
@@ -26,7 +24,7 @@ under_laws {R = R} laws = record {
   exact = exact_pairs ranged_cmp R number_exact laws.exact;
 }
 
--- records that name such a key
+-- records that name the key of their place
 abbrev pub keyed : {K X : Type 0} → (X → K) → (X → List Cell) → (X → Type 0) → Stored (ℕ × K) X
 keyed key columns is_within = record { own = λ k x. (k.0, key x); columns = columns; is_within = is_within }
 
@@ -38,21 +36,19 @@ timing_stored = keyed key_of timing_columns (IsRowWithin current_limits)
 abbrev pub draft_stored : Stored (ℕ × Key) Change
 draft_stored = keyed changed_key draft_columns (IsChangeWithin current_limits)
 
--- inspections
+-- inspections, by their numbers
 abbrev pub inspection_stored : Stored (ℕ × ℕ) Inspection
 inspection_stored = keyed (λ x. x.number) inspection_columns IsInspectionWithin
 
--- orders
+-- orders, by their numbers
 abbrev pub order_stored : Stored (ℕ × ℕ) Order
 order_stored = keyed (λ x. x.number) order_columns IsOrderWithin
 
--- used parts
+-- used parts, by order and line
 abbrev pub used_stored : Stored (ℕ × (ℕ × ℕ)) UsedLine
 used_stored = keyed (λ x. (x.order, x.line)) used_columns IsUsedLineWithin
 
--- ---- intersections, by their numbers
-
--- the places of intersections
+-- the places of intersections: their numbers
 abbrev pub numbers : Places ℕ
 numbers = record { cells = intersection_key; is_place = IsInRange 1 9999 }
 
@@ -64,9 +60,7 @@ number_laws = record { ordered = last_order; exact = number_exact }
 abbrev pub intersection_stored : Stored ℕ IntersectionRow
 intersection_stored = record { own = λ id _. id; columns = intersection_columns; is_within = IsIntersectionRow }
 
--- ---- parts, by their codes
-
--- the places of parts
+-- the places of parts: their codes
 abbrev pub codes : Places (List ℕ)
 codes = record { cells = part_key; is_place = IsPartCode }
 
@@ -78,9 +72,7 @@ code_laws = record { ordered = part_order; exact = slice_cmp-IsAntisymmetric exa
 abbrev pub hand_stored : Stored (List ℕ) ℕ
 hand_stored = record { own = λ code _. code; columns = part_columns; is_within = IsHand }
 
--- ---- deliveries, by their parts and their numbers
-
--- the places of deliveries
+-- the places of deliveries: their parts and their numbers
 abbrev pub delivery_places : Places (List ℕ × ℕ)
 delivery_places = record { cells = delivery_cells; is_place = λ _. Unit {0} }
 

@@ -71,23 +71,15 @@ impl Maps {
     pub(crate) fn copy_tables(&self, alloc: Global) -> Result<Maps, NoMemory>
         ensures { IfOk result (λ copy. copy ≡ self.now) }
     {
-        let intersection = copied_rows(alloc, &self.intersection)?;
-        let timing = copied_rows(alloc, &self.timing)?;
-        let draft = copied_rows(alloc, &self.draft)?;
-        let inspection = copied_rows(alloc, &self.inspection)?;
-        let work_order = copied_rows(alloc, &self.work_order)?;
-        let used_part = copied_rows(alloc, &self.used_part)?;
-        let part = copied_rows(alloc, &self.part)?;
-        let delivery = copied_rows(alloc, &self.delivery)?;
         Ok(Maps {
-            intersection,
-            timing,
-            draft,
-            inspection,
-            work_order,
-            used_part,
-            part,
-            delivery,
+            intersection: copied_rows(alloc, &self.intersection)?,
+            timing: copied_rows(alloc, &self.timing)?,
+            draft: copied_rows(alloc, &self.draft)?,
+            inspection: copied_rows(alloc, &self.inspection)?,
+            work_order: copied_rows(alloc, &self.work_order)?,
+            used_part: copied_rows(alloc, &self.used_part)?,
+            part: copied_rows(alloc, &self.part)?,
+            delivery: copied_rows(alloc, &self.delivery)?,
         })
     }
 
