@@ -1,7 +1,7 @@
 -- How a table keeps records of one kind, and what is gathered of them.
-use Rattle.std.specs.Prelude.{ℕ, List, [], ◌∷◌, Option}
+use Rattle.std.specs.Prelude.{ℕ, List, Option}
 use Rattle.std.specs.List.{AllByRecursion}
-use Rattle.office_tables_shelf.specs.{Cells.Cell, Cells.null, Content.Content, declared.rows.Table.Table}
+use Rattle.office_tables_shelf.specs.{Cells.Cell, Content.Content, declared.rows.Table.Table}
 use Rattle.office_tables_statements.specs.Tables.{HasDamagedRow, ListsRows}
 
 -- the table; the intersection whose records a list shows, or none where it shows all; the key cells of a record, its other cells, and its limits
@@ -26,8 +26,3 @@ pub record Gathers {Of X G : Type 0} (holds : G → List X → Type 0) (kept : K
   pub held : holds found records
   pub within : AllByRecursion kept.is_within records
   pub lists : ListsRows kept.table (kept.key of) kept.columns tables (kept.whose of) records
-
--- the first of these cells
-abbrev pub first_cell : List Cell → Cell
-first_cell [] = null
-first_cell (cell ∷ more) = cell

@@ -77,7 +77,7 @@ pub fn list<T: StoredRow, S: Alter>(
     ensures within { IfOk result (λ found. IsHonest (state S.Store conn.new) →
         AllByRecursion T.kept.is_within found.items) }
 {
-    gather_rows::<T, Vec<T>, S>(alloc, conn, of, params, Vec::new(alloc))
+    gather_rows::<T, _, S>(alloc, conn, of, params, Vec::new(alloc))
 }
 
 /// Gathers the rows of a list, in the order of their keys, into `begun`, which holds none yet. No
@@ -123,19 +123,12 @@ pub fn last_days<S: Alter>(
 ) -> Result<BTreeMap<InterId, Day>, ShelfFault>
     requires { IsOffice (state S.Store conn.old) }
     ensures days { LooksUp S.Store result (λ tables days. (id : ℕ) →
-        ReadsLast tables id (last_day_in days.entries id))
-        HasAnyDamagedInspection conn.old conn.new }
+        ReadsLast tables id (last_day_in days.entries id)) HasAnyDamagedInspection
+        conn.old conn.new }
     ensures whole { IfOk result (λ _. IsHonest (state S.Store conn.new) →
         ¬ HasAnyDamagedInspection (content_now (state S.Store conn.old))) }
 {
-    let none = BTreeMap::new(alloc);
-    gather_rows::<(InterId, Inspection), BTreeMap<InterId, Day>, S>(
-        alloc,
-        conn,
-        (),
-        params![],
-        none,
-    )
+    gather_rows::<(InterId, Inspection), _, S>(alloc, conn, (), params![], BTreeMap::new(alloc))
 }
 
 /// The open orders on each intersection that has any, in the order of their numbers. `Damaged`
@@ -152,12 +145,5 @@ pub fn open_orders<S: Alter>(
     ensures whole { IfOk result (λ _. IsHonest (state S.Store conn.new) →
         ¬ HasAnyDamagedOrder (content_now (state S.Store conn.old))) }
 {
-    let none = BTreeMap::new(alloc);
-    gather_rows::<(InterId, Order), BTreeMap<InterId, Vec<Order>>, S>(
-        alloc,
-        conn,
-        (),
-        params![],
-        none,
-    )
+    gather_rows::<(InterId, Order), _, S>(alloc, conn, (), params![], BTreeMap::new(alloc))
 }

@@ -1,12 +1,12 @@
 //! Rows of the office's tables as records: found, put, added and removed, each by one fixed text.
 
-ghost use Rattle.std.specs.Prelude.{◌≡◌, ◌++◌, ℕ, true, pos, List, length, Option, None, IfOk, IfSome};
+ghost use Rattle.std.specs.Prelude.{get_or, ◌≡◌, ◌++◌, ℕ, true, pos, List, length, Option, None, IfOk, IfSome};
 ghost use Rattle.sqlite.specs.{Held.state, Values.bound};
-ghost use Rattle.office_tables_shelf.specs.Cells.{Cell, number};
+ghost use Rattle.office_tables_shelf.specs.Cells.{Cell, null, number};
 ghost use Rattle.office_tables_statements.specs.Stored.{content_now};
 ghost use Rattle.office_tables_statements.specs.Calls.{IsHonest, IsOffice, Keeps, StaysOpen};
 ghost use Rattle.office_tables_statements.specs.Tables.{put_in, remove_in, key_shown, columns_shown, width_of, key_given, IsKeyOf, IsUnder, ReadsRow, HasDamagedUnder, IsNoRow, IsListText, IsFindText, IsUpdateText, IsInsertText, IsRemoveText, takes, values_of};
-ghost use Rattle.office_tables_sql.specs.{Kept.Kept, Kept.keep, Kept.first_cell, Promises.LooksUp, Promises.Turns};
+ghost use Rattle.office_tables_sql.specs.{Kept.Kept, Kept.keep, Promises.LooksUp, Promises.Turns};
 
 use office_tables_shelf::shelf::ShelfFault;
 use office_tables_statements::statement::{SqlFault, select_one, write};
@@ -100,7 +100,7 @@ pub trait StoredRow: Sized + Drop {
 
 /// A record of one intersection, of which a walk shows those of all intersections.
 pub trait WalkedRow: StoredRow<Of = InterId> {
-    ghost begins: { (id : ℕ) (x : Self) → first_cell (Self.kept.key id x) ≡ number (pos id) };
+    ghost begins: { (id : ℕ) (x : Self) → get_or (Self.kept.key id x) 0 null ≡ number (pos id) };
 }
 
 /// A record with the number of its intersection: the list shows those of all intersections.
