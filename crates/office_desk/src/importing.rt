@@ -72,12 +72,13 @@ pub(crate) fn decide_import<S: Shelf>(
             Taken::Refused(refusal) => {
                 let at = index + 1;
                 let cause = refusal.number();
-                return Ok(Decided::from_refusal(alloc, Refusal::ImportRow { at, cause }));
+                let reply = Reply::Refused(Refusal::ImportRow { at, cause });
+                return Ok(Decided::all_or_none(alloc, reply, rows));
             }
         }
         pending = pending.with(rows)?;
     }
     let changes = pending.into_changes(alloc)?;
     let reply = Reply::Imported { added, same };
-    Ok(Decided { reply, changes })
+    Ok(Decided::all_or_none(alloc, reply, changes))
 }

@@ -15,6 +15,7 @@ pub struct Decided {
 
 impl Decided {
     ghost use Rattle.std.specs.Prelude.{◌≡◌, []};
+    ghost use Rattle.office_tables_decisions.specs.Changes.{IsRefused};
 
     /// A refusal, for which nothing is to be written.
     pub fn from_refusal(alloc: Global, refusal: Refusal) -> Decided
@@ -32,6 +33,22 @@ impl Decided {
         Decided {
             reply,
             changes: Vec::new(alloc),
+        }
+    }
+
+    /// The reply to records that were decided in turn, with the rows of all of them; or with none,
+    /// if it is a refusal.
+    pub fn all_or_none(alloc: Global, reply: Reply, rows: Vec<RowChange>) -> Decided
+        ensures reply { result.reply ≡ reply }
+        ensures all { ¬ IsRefused reply → result.changes.items ≡ rows.items }
+        ensures none { IsRefused reply → result.changes.items ≡ [] }
+    {
+        match reply {
+            Reply::Refused(refusal) => Decided::from_refusal(alloc, refusal),
+            reply => Decided {
+                reply,
+                changes: rows,
+            },
         }
     }
 }

@@ -5,6 +5,7 @@ use Rattle.office_tables_decisions.proofs.{ReadLemmas.handed_told, ReadLemmas.un
 use Rattle.office_desk.specs.{Changes.most_import_writes, Damage.MeetsCabinetDamage, Recording.AreFound, Taking.TakesNext}
 use Rattle.office_machine.specs.{Step.cabinet_of, declared.reply.Reply.TheVariants.Imported}
 use Rattle.office_desk.proofs.Imports.{SoFar, WentOn, counted_on, damage_of_record, import_decides, is_next, none_next, none_taken, nothing_yet, one_more, refused_all, some_read, taken_reads, writes_left}
+use Rattle.office_desk_cabinet.specs.Pending.{ComesTo}
 use Rattle.office_desk.proofs.{FoundAgain.none_found, importing.decide_import.Goals.in-Added, importing.decide_import.Goals.in-Same}
 use Rattle.office_desk.proofs.importing.decide_import.Goals as goal
 
@@ -87,7 +88,7 @@ returns-in-Refused g c =
     let next = is_next c.loop-index.index item c.as_slice-command-items.ensures c.loop-index-test.true c.command-item.is in
     let told = c.in_ok-taken.ensures in
     record {
-      decides = told_decides _ _ _ _ _ c.from_refusal.ensures.reply (λ e. cc) (refuses_so (30 ∷ []) _ (inl refl)) c.from_refusal.ensures.no_changes
+      decides = told_decides _ _ _ _ _ c.all_or_none.ensures.reply (λ e. cc) (refuses_so (30 ∷ []) _ (inl refl)) (c.all_or_none.ensures.none tt)
           (λ honest office stands.
           let first = c.take_record.ensures.reads.kept.honest_before honest in
           refused_all _ all c.loop-index.index c.loop-index.added c.loop-index.same before c.in_ok-taken.rows.items item c.in_ok-taken.taken
@@ -102,9 +103,10 @@ returns g c =
     let all = c.args.records.now in
     let index = c.loop-index.index in
     let inv = c.loop-index.invariant in
+    let all_rows = c.all_or_none-2.ensures.all (λ refused. refused) in
     let high = subst (λ (list : List RecordCommand). length list ≤ index) c.as_slice-command-items.ensures c.loop-index-test.false in
     record {
-      decides = import_decides _ _ all index c.loop-index.added c.loop-index.same c.loop-index.pending _ high inv.so_far inv.writes c.in_ok-changes.ensures.comes refl;
+      decides = import_decides _ _ all index c.loop-index.added c.loop-index.same c.loop-index.pending _ high inv.so_far inv.writes (subst (ComesTo _) (sym all_rows) c.in_ok-changes.ensures.comes) c.all_or_none-2.ensures.reply;
       reads = record {
         kept = inv.reads.kept;
         clean_before = inv.reads.clean_before;
@@ -115,7 +117,7 @@ returns g c =
           let start = none_taken all _ index c.as_slice-command-items.ensures c.loop-index.auto.index-end none in
           let none_added : c.loop-index.added ≡ 0 = omega (arith, inv.counted, start) in
           let none_same : c.loop-index.same ≡ 0 = omega (arith, inv.counted, start) in
-          ((λ k. Imported (none_added k) (none_same k)), c.in_ok-changes.ensures.none (inv.fresh start));
+          (c.all_or_none-2.ensures.reply ∙ (λ k. Imported (none_added k) (none_same k)), all_rows ∙ c.in_ok-changes.ensures.none (inv.fresh start));
     }
 
 pub returns-in_err-changes-clause-nothing : goal.returns-in_err-changes-clause-nothing
