@@ -1,4 +1,4 @@
-use Rattle.std.proofs.Common.{◌≡◌, ◌-◌, Some, length, sym, ◌∙◌, rules, arith, refl}
+use Rattle.std.proofs.Common.{◌≡◌, ◌-◌, Some, length, rules, arith, refl}
 use Rattle.sqlite.specs.{Held.state, Tree.Trees}
 use Rattle.office_tables_shelf.specs.Change.{changed_by}
 use Rattle.office_tables_statements.specs.{Calls.IsHonest, Calls.Keeps, Stored.content_now}
