@@ -1,8 +1,8 @@
 -- What the steps of a migration come to.
-use Rattle.std.proofs.Common.{◌≡◌, ◌≢◌, inl, inr, ℕ, ◌-◌, List, [], ◌∷◌, ◌++◌, length, map, None, Some, Option, pos, Result, Ok, Err, IsTrue, refl, sym, ap, subst, subst₂, ◌∙◌, arith, length-append}
+use Rattle.std.proofs.Common.{◌≡◌, ◌≢◌, inl, inr, ℕ, ◌-◌, List, [], ◌∷◌, ◌++◌, length, map, None, Some, pos, Result, Ok, Err, IsTrue, refl, sym, ap, subst, subst₂, ◌∙◌, arith, length-append}
 use Rattle.std.specs.{FinMap.entries, Prelude.IsErrAnd}
 use Rattle.std.proofs.lemmas.Bool.{cases_Bool}
-use Rattle.sqlite.specs.{Order.Row, Order.column, Tree.Trees, Effect.Database, Held.Held, Held.state, State.State, State.HasCleanDisk, State.Survives}
+use Rattle.sqlite.specs.{Order.Row, Order.column, Tree.Trees, Effect.Database, Held.Held, Held.state, State.State, State.Survives}
 use Rattle.sqlite.proofs.StateLemmas.{survives_then}
 use Rattle.sqlite_tied.specs.Compute.{everything}
 use Rattle.sqlite_trees.specs.declared.store.Store.{Ghosts}

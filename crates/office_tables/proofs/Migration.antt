@@ -1,10 +1,10 @@
 -- The tables after the rows were put in their place, and the office that they stand for.
-use Rattle.std.proofs.Common.{◌≡◌, ◌⊎◌, inl, inr, ℕ, suc, true, false, T, List, [], ◌∷◌, map, find, length, cond, if◌then◌else◌, Option, Some, None, option_map, refl, sym, ap, subst, ◌∙◌, arith, true≢false, Bool, rules}
+use Rattle.std.proofs.Common.{◌≡◌, inl, inr, ℕ, true, false, T, List, [], ◌∷◌, map, find, length, if◌then◌else◌, Option, Some, None, option_map, refl, sym, ap, subst, ◌∙◌, arith, true≢false, Bool, rules}
 use Rattle.std.proofs.{lemmas.Option.IfSome_then, lemmas.Bool.cases_Bool}
 use Rattle.std.specs.FinMap.{get, insert, entries, entries_sorted, get-entries, get-insert, get-empty, same_map, is_sorted}
-use Rattle.std.specs.{List.AllByRecursion, List.list_all, Ordering.is_eq, FinMap.Entries.below_all, Prelude.IfSome, Prelude.IsTrue}
+use Rattle.std.specs.{List.AllByRecursion, Ordering.is_eq, FinMap.Entries.below_all, Prelude.IfSome, Prelude.IsTrue}
 use Rattle.sqlite_rules.proofs.ListLemmas.{all_has, has_found}
-use Rattle.signal_records.specs.{PhaseList.is_phase_list, Row.key_of, Within.current_limits, Within.version_1_limits, Within.IsAnyPedWithin, Within.IsRowWithin, Within.IsKeyWithin, Within.IsChangeWithin, Key.key_cmp, declared.key.Key.Key, declared.limits.Limits.Limits, declared.record.Change.Change, declared.record.Change.TheVariants.Put, declared.record.Change.TheVariants.Remove, declared.record.Ped.Ped, declared.record.Phase.Phase, declared.record.Row.Row, TimingSet.Rows as Set, ChangedRows.left_by, ChangedRows.changed_key}
+use Rattle.signal_records.specs.{PhaseList.is_phase_list, Row.key_of, Within.current_limits, Within.version_1_limits, Within.IsAnyPedWithin, Within.IsRowWithin, Within.IsKeyWithin, Key.key_cmp, declared.key.Key.Key, declared.limits.Limits.Limits, declared.record.Change.TheVariants.Put, declared.record.Change.TheVariants.Remove, declared.record.Ped.Ped, declared.record.Phase.Phase, declared.record.Row.Row, TimingSet.Rows as Set, ChangedRows.left_by, ChangedRows.changed_key}
 use Rattle.signal_records.proofs.{Lists.is_phase_list_wider, RowLaws.are_version_1}
 use Rattle.signal_rules.specs.{BeforeLead.HasNoLead, BeforeLead.violations_before_lead, Lookup.the_phase, Violations.violations_of}
 use Rattle.signal_rules.proofs.BeforeLead.{same_violations}

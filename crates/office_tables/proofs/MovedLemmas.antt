@@ -91,9 +91,9 @@ version_stored trees it schema listed =
 
 -- an opening tells neither Version nor Damaged of an office's tables with today's version
 pub today_version : (trees : Trees) → AreToday trees → HasOtherVersion trees → ⊥
-today_version trees it (schema, listed, (keep, other)) =
-    let same : Some current_version ≡ Some (number other.version ∷ []) = sym (version_stored trees it schema listed) ∙ other.stored in
-    other.other (let e = same in cc)
+today_version trees it (schema, listed, (keep, version, stored, other)) =
+    let same : Some current_version ≡ Some (number version ∷ []) = sym (version_stored trees it schema listed) ∙ stored in
+    other (let e = same in cc)
 
 pub today_rows : (trees : Trees) → AreToday trees → HasRowsAlone trees → ⊥
 today_rows trees it (schema, listed, (none, some)) =

@@ -24,22 +24,16 @@ pub record IsVersionKeeper (table : SqlTable) : Type 0 where
 abbrev pub KeepVersion : List SqlTable → Type 0
 KeepVersion = AllByRecursion (λ t. same_name t.name KEEPER.now ≡ true → IsVersionKeeper t)
 
--- the rows of `office_version` store a number as the version, and not 2, which is today's
-pub record StoreOther (rows : List Row) : Type 0 where
-  pub version : ℤ
-  pub stored : version_of rows ≡ Some (number version ∷ [])
-  pub other : version ≢ pos 2
-
 -- ---- what is told of tables, by the rows of `office_version` and those of the eight others
 
 -- What is true of tables of which this is told. Nothing: they may be made anew, since each is the office's but for its
--- number and today's version is stored, or since no version is stored and there is no row. Version: another version than
--- today's is stored. Damaged: there are rows, and no version is stored.
+-- number and today's version is stored, or since no version is stored and there is no row. Version: a number other than
+-- 2, which is today's, is stored. Damaged: there are rows, and no version is stored.
 abbrev pub Tell : Option OpenFault → List SqlTable → List Row → List (Table × Row) → Type 0
 Tell None tables keeper eight =
     (AllByRecursion IsOffices tables × (version_of keeper ≡ Some current_version))
     ⊎ ((version_of keeper ≡ None) × (eight ≡ []))
-Tell (Some fault.Version) tables keeper eight = KeepVersion tables × StoreOther keeper
+Tell (Some fault.Version) tables keeper eight = KeepVersion tables × (version : ℤ) × (version_of keeper ≡ Some (number version ∷ [])) × (version ≢ pos 2)
 Tell (Some fault.Damaged) tables keeper eight = (version_of keeper ≡ None) × (eight ≢ [])
 Tell (Some _) tables keeper eight = Unit {0}
 

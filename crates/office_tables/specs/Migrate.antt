@@ -34,11 +34,6 @@ pub record IsToday (old new : Trees) (count : Migrated) : Type 0 where
 abbrev pub IsBrought : Trees → Trees → Migrated → Type 0
 IsBrought old new count = IsToday old new count ⊎ IsAnew old new count
 
--- neither today's version is stored nor version 1
-pub record HasNeitherVersion (trees : Trees) : Type 0 where
-  pub not_current : version_in trees ≢ Some current_version
-  pub not_first : version_in trees ≢ Some first_version
-
 -- rows that a query of the version shows: none, or a first one that shows a number which is neither
 -- today's version, 2, nor 1
 abbrev pub AreNeither : List Row → Type 0
@@ -59,7 +54,7 @@ module _ {S : Type 0} (g : Ghosts S) where
   abbrev pub HasUnknownVersion : Held S → Type 0
   HasUnknownVersion conn =
       (table_named (state g conn).now.schema KEEPER.now ≡ None)
-      ⊎ (HasNeitherVersion (state g conn).committed.trees ⊎ ShowsNeither conn)
+      ⊎ (((version_in (state g conn).committed.trees ≢ Some current_version) × (version_in (state g conn).committed.trees ≢ Some first_version)) ⊎ ShowsNeither conn)
 
 -- version 1 is stored, and cells stand in `timing` or `draft` in which it kept nothing
 pub record HasDamagedFormer (trees : Trees) : Type 0 where

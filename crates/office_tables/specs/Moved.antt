@@ -2,7 +2,7 @@
 use Rattle.std.specs.Prelude.{List, [], ◌∷◌, ◌++◌, map, if◌then◌else◌, ℕ}
 use Rattle.sqlite_schema.specs.{Names.same_name, declared.schema.Table.Table as SqlTable}
 use Rattle.sqlite.specs.{Order.Row, Tree.Trees}
-use Rattle.office_tables_shelf.specs.{Cells.TableRows, Content.Content, Content.no_content, Content.with_rows, declared.rows.Table.Table}
+use Rattle.office_tables_shelf.specs.{Content.Content, Content.no_content, Content.with_rows, declared.rows.Table.Table}
 use Rattle.office_tables_statements.specs.{Stored.cells_at, Stored.rows_in, Tables.layout_at, Tables.schema_at, Tables.put_in}
 use Rattle.office_tables.specs.declared.gather.TheConstants.{CHILDREN_FIRST}
 

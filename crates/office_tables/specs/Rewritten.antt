@@ -1,5 +1,5 @@
 -- The rows of version 1 in the cells of `timing` and `draft`, and what is put in their place.
-use Rattle.std.specs.Prelude.{◌≡◌, ℕ, Bool, true, false, List, [], ◌∷◌, ◌++◌, filter, map, length, None, is_some}
+use Rattle.std.specs.Prelude.{◌≡◌, ℕ, Bool, false, List, ◌++◌, filter, map, length, None, is_some}
 use Rattle.std.specs.List.{AllByRecursion}
 use Rattle.sqlite.specs.Order.{Row as SqlRow}
 use Rattle.sqlite_rules.specs.Lists.{Has}

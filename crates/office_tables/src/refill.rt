@@ -4,7 +4,7 @@ ghost use Rattle.std.specs.Prelude.{◌≡◌, map, IsTrue, true, IfOk};
 ghost use Rattle.sqlite.specs.{Held.state, Order.column, Values.bound, Values.bound_value};
 ghost use Rattle.sqlite_value.specs.Value.{owned};
 ghost use Rattle.office_tables_statements.specs.{Calls.StandsOn, Calls.TurnsTo, Tables.suit, Tables.suits_kind, Tables.places_of as places_in, Wanted.column_wanted};
-ghost use Rattle.office_tables_statements.specs.Stored.{are_sound, cell_of, cells_at, content_now, is_sound};
+ghost use Rattle.office_tables_statements.specs.Stored.{are_sound, cell_of, cells_at, content_now};
 ghost use Rattle.office_tables.specs.Moved.{row_put, all_put};
 
 use crate::gather::Moved;

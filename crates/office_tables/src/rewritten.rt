@@ -7,7 +7,7 @@ ghost use Rattle.office_tables_shelf.specs.Reads.{IsNoRow};
 ghost use Rattle.office_tables_statements.specs.Calls.{IsHonest, IsOffice, Keeps, TellsOpen};
 ghost use Rattle.office_tables_statements.specs.Stored.{content_now};
 ghost use Rattle.office_tables_statements.specs.Tables.{IsListText, columns_shown, key_shown, row_shown, rows_at, stored_for, width_of};
-ghost use Rattle.office_tables.specs.Rewritten.{former_columns, has_ped, kept_key, HasDamage, IsFormer, Puts, ShowsDamage, puts, table_of};
+ghost use Rattle.office_tables.specs.Rewritten.{former_columns, kept_key, HasDamage, IsFormer, Puts, ShowsDamage, puts, table_of};
 
 use office_tables_shelf::rows::RowChange;
 use office_tables_shelf::shelf::ShelfFault;

@@ -5,7 +5,7 @@ ghost use Rattle.sqlite.specs.{Files.file_state, Held.state};
 ghost use Rattle.office_tables.specs.{Arranged.IsArrangedIfClean, SqlShelf.IsCurrent, Opening.IsOpened, Opening.IsRefused, Opening.Opens};
 
 use crate::found::{check_again, has_only_ours};
-use crate::open::{Left, OpenFault, prepare};
+use crate::open::{OpenFault, Refused, prepare};
 use cabinet_core::{Day, Hand, Inspection, Order, PartCode, UsedLine};
 use office_tables_shelf::counts::WriteCounts;
 use office_tables_shelf::register::{RegisterKey, RegisterRecord};
@@ -66,10 +66,7 @@ impl<S: Alter> SqlShelf<S> {
     /// shows that the rows of each table are in order. Where it refuses, what is left comes back:
     /// the connection, in which a transaction that was under way goes on, or its store where the
     /// database was not checked again.
-    pub fn open_returning(
-        alloc: Global,
-        conn: Connection<S>,
-    ) -> Result<SqlShelf<S>, (OpenFault, Left<S>)>
+    pub fn open_returning(alloc: Global, conn: Connection<S>) -> Result<SqlShelf<S>, Refused<S>>
     where
         S: Drop,
         ensures opens { Opens S.Store conn result }
@@ -87,10 +84,7 @@ impl<S: Alter> SqlShelf<S> {
 
     /// Opens the tables of the office as `open_returning` does, in a database whose rows are known
     /// to be in order, as those of files are that were just opened, and which is not checked again.
-    pub fn open_arranged(
-        alloc: Global,
-        conn: Connection<S>,
-    ) -> Result<SqlShelf<S>, (OpenFault, Left<S>)>
+    pub fn open_arranged(alloc: Global, conn: Connection<S>) -> Result<SqlShelf<S>, Refused<S>>
     where
         S: Drop,
         requires { IsArrangedIfClean (state S.Store conn) }

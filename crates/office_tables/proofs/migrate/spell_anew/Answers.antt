@@ -1,4 +1,4 @@
-use Rattle.std.proofs.Common.{◌≡◌, ◌-◌, Some, length, sym, ◌∙◌, rules, arith, refl}
+use Rattle.std.proofs.Common.{◌≡◌, ◌-◌, Some, length, rules, arith, refl}
 use Rattle.sqlite.specs.{Held.state, Tree.Trees}
 use Rattle.office_tables_shelf.specs.Change.{changed_by}
 use Rattle.office_tables_statements.specs.{Calls.IsHonest, Calls.Keeps, Stored.content_now}
@@ -23,7 +23,7 @@ anew : (g : Over) (c : After-write_anew g) (count : Migrated) → count.timing �
     → IsAnew (state g.S.Store c.args.conn.now).committed.trees trees count
 anew g c =
     let version : IsHonest (state g.S.Store c.stored_version.new.conn) → Some first_version ≡ version_in (state g.S.Store c.args.conn.now).now.trees =
-    λ honest. let told = rw c.in-Some-eq1.is at (c.in_ok-stored_version.ensures.found honest) in first_of ((search rules), (cc), (grind arith)) in
+    λ honest. let told = rw c.in-Some-eq1.is at (c.in_ok-stored_version.ensures.found honest) in search rules in
     anew_by g.S.Store c.args.conn.now c.stored_version.new.conn c.put_former.new.conn c.put_former-2.new.conn c.requires c.stored_version.ensures.kept c.put_former.ensures.kept c.put_former-2.ensures.kept
     _ _ _ _ c.new-changes.ensures.items c.as_slice.ensures.value c.in_ok-put_former.ensures.puts c.in_ok-put_former-2.ensures.puts version
 

@@ -1,4 +1,4 @@
-use Rattle.std.proofs.Common.{◌≡◌, Some, sym, ◌∙◌, arith, rules}
+use Rattle.std.proofs.Common.{◌≡◌, Some, sym, ◌∙◌, rules}
 use Rattle.sqlite.specs.Held.{state}
 use Rattle.office_tables_statements.specs.Calls.{IsHonest}
 use Rattle.office_tables_sql.specs.Version.{current_version, version_in}
@@ -15,7 +15,7 @@ pub returns-in-Ok-Some-eq2-clause-prepares : goal.returns-in-Ok-Some-eq2-clause-
 returns-in-Ok-Some-eq2-clause-prepares g c =
     let it = c.in-Ok-Some-eq2.ensures in
     let new = c.stored_version.new.conn in
-    let today : IsHonest (state g.S.Store new) → Some current_version ≡ version_in (state g.S.Store c.args.conn).now.trees = λ honest. let told = it.found honest in first_of ((search rules), (cc), (grind arith)) in
+    let today : IsHonest (state g.S.Store new) → Some current_version ≡ version_in (state g.S.Store c.args.conn).now.trees = λ honest. let told = it.found honest in search rules in
     today_prepared g.S.Store c.args.conn new (λ h. c.is_autocommit.ensures.settled c.if-not-is_autocommit.false h.1) it.kept it.open (g.met.S.Store.settled new.store) today
 
 pub returns-in-Ok-clause-prepares : goal.returns-in-Ok-clause-prepares

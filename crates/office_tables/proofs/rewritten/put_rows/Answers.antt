@@ -1,4 +1,4 @@
-use Rattle.std.proofs.Common.{◌≡◌, ◌++◌, [], ◌∷◌, inr, map, append-nil, append_assoc, refl, sym, ap, subst, ◌∙◌, rules}
+use Rattle.std.proofs.Common.{◌≡◌, ◌++◌, [], ◌∷◌, inr, map, append-nil, append_assoc, sym, ap, subst, ◌∙◌, rules}
 use Rattle.std.specs.Vec.Iter.{into_iter_items}
 use Rattle.sqlite_rules.specs.Lists.{Has}
 use Rattle.office_tables_shelf.proofs.ListLemmas.{all_more}
