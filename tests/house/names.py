@@ -42,7 +42,7 @@ MEANT = {
     "a value of a kind at a place, a field or a key, where each reader has it":
         "day_at flag_at row_at list_of number_of phase_in phases_in rows_in body_of",
     "what something is, as columns or texts, of each table, file or page":
-        "ped_columns place_of row_of row_shown "
+        "ped_columns place_of row_of "
         "view_code width_of",
     "what the desk does with a record, of the register and of a plan":
         "Makes WantsMemory row_change_of row_changes_of",
