@@ -1,5 +1,5 @@
 -- From what was decided by reads to what a command is answered.
-use Rattle.std.proofs.Common.{◌≡◌, ◌≢◌, ◌⊎◌, [], Result, Ok, Err, IsOkAnd, refl, inl, inr, arith}
+use Rattle.std.proofs.Common.{◌≡◌, ◌≢◌, [], Result, Ok, Err, IsOkAnd, refl, inl, inr, arith}
 use Rattle.std.specs.Prelude.{MatchResult}
 use Rattle.office_desk_timing.specs.Decisions.{refusal_of}
 use Rattle.office_desk.proofs.{Looks.looks_any, Looks.looks_open, Looks.looks_weaker, Undamaged.damage_refuted}

@@ -1,9 +1,9 @@
 -- What the queries of the register show after records that were accepted, each in its turn.
-use Rattle.std.proofs.Common.{◌≡◌, ℕ, ◌+◌, ◌-◌, ◌≤◌, Bool, true, false, ◌&&◌, ◌==◌, List, [], ◌∷◌, ◌++◌, map, filter, Option, Some, None, T, refl, ap, sym, subst, ◌∙◌, inl, inr, arith}
+use Rattle.std.proofs.Common.{◌≡◌, ℕ, ◌+◌, Bool, true, false, ◌&&◌, ◌==◌, List, [], ◌∷◌, ◌++◌, map, filter, Option, Some, None, T, refl, ap, sym, subst, ◌∙◌, inl, inr, arith}
 use Rattle.std.proofs.lemmas.Bool.{cases_Bool}
 use Rattle.std.specs.FinMap.{get, entries, entries_sorted, get-entries}
 use Rattle.std.specs.{FinMap.Entries.is_sorted, FinMap.Entries.below_all, FinMap.Entries.where_key, List.AllByRecursion, Prelude.IfSome, Ordering.eq_by_cmp, Ordering.is_eq}
-use Rattle.cabinet_core.specs.{Cabinet.added, Cabinet.on_hand, Cabinet.close_line, Cabinet.with_closing, Cabinet.record_of, Orders.is_open, Orders.is_open_at, Orders.is_open_order, Orders.open_at, Runs.AreAccepted, Runs.open_by, Runs.received_by, Runs.spent_by, Stock.IsStocked, Stock.pieces_delivered, Stock.hand_of, Stock.pieces, Stock.stock_by_code, Stock.stock_of, Stock.pieces_used, Register.RecordKey, Register.Register, Register.record_cmp, Sound.IsOrderAt, Sound.IsSoundRegister, Step.line_at, Step.with_closed, Step.with_record, declared.command.RecordCommand.RecordCommand, declared.record.Closing.Closing, declared.record.Order.Order}
+use Rattle.cabinet_core.specs.{Cabinet.added, Cabinet.close_line, Cabinet.with_closing, Cabinet.record_of, Orders.is_open, Orders.is_open_at, Orders.is_open_order, Orders.open_at, Runs.AreAccepted, Runs.open_by, Runs.received_by, Runs.spent_by, Stock.IsStocked, Stock.pieces, Stock.stock_by_code, Stock.stock_of, Register.RecordKey, Register.Register, Register.record_cmp, Sound.IsOrderAt, Sound.IsSoundRegister, Step.line_at, Step.with_closed, Step.with_record, declared.command.RecordCommand.RecordCommand, declared.record.Closing.Closing, declared.record.Order.Order}
 use Rattle.cabinet_core.specs.declared.command.RecordCommand.TheVariants.{Inspect, OpenOrder, UsePart, CloseOrder, Receive}
 use Rattle.cabinet_core.proofs.{EntryLemmas.entries_stand, EntryLemmas.tied, KeyOrders.record_exact, KeyOrders.record_total, KeyOrders.record_ties, Puts.all_put, Puts.if_more, RecordLaws.open_law, RecordLaws.delivered_law, RecordLaws.used_law, StockList.stock_has, Sound.usable, Sound.receivable, StockLemmas.line_stocked, StockLemmas.delivery_stocked, StockLemmas.hand_adds}
 use Rattle.office_tables_shelf.proofs.ListLemmas.{less, parts}

@@ -1,5 +1,5 @@
 -- Over a run of commands, a committed set is the draft just before its last accepted commit, or what it was at the start.
-use Rattle.std.proofs.Common.{◌≡◌, ℕ, Bool, true, false, List, [], ◌∷◌, Option, Some, None, Ok, cond, refl, ap, sym, ◌∙◌, eq-eqb, ne_eqb}
+use Rattle.std.proofs.Common.{◌≡◌, ℕ, Bool, true, false, List, [], ◌∷◌, Some, None, Ok, cond, refl, ap, sym, ◌∙◌, eq-eqb, ne_eqb}
 use Rattle.std.specs.{Prelude.◌&&◌, FinMap.get}
 use Rattle.signal_records.specs.{TimingSet.Rows, declared.state.Stage.Stage}
 use Rattle.draft_core.specs.Transaction.{TimingSide, Draft, holder_of, owned, with_draft, begun_from, abandoned_from, table_line}
@@ -19,14 +19,6 @@ owned_keeps stage wrong clerk next_draft side next e =
     let took = owned_inverts side stage wrong clerk (λ draft. Ok (with_draft side (next_draft draft))) next e in
     cc
 
-begun_keeps : (clerk : List ℕ) (side next : TimingSide) (held : Option Draft) → begun_from side clerk held ≡ Ok next → next.committed ≡ side.committed
-begun_keeps clerk side next None e = cc
-begun_keeps clerk side next (Some draft) e = absurd cc
-
-abandoned_keeps : (side next : TimingSide) (held : Option Draft) → abandoned_from side held ≡ Ok next → next.committed ≡ side.committed
-abandoned_keeps side next None e = absurd cc
-abandoned_keeps side next (Some draft) e = cc
-
 -- what the set is after a step: the draft, where it is committed
 abbrev set_after : DraftStep → TimingSide → Rows
 set_after Commit side = set_of_draft side.draft side.committed
@@ -34,11 +26,13 @@ set_after _ side = side.committed
 
 step_keeps : (step : DraftStep) (clerk : List ℕ) (side next : TimingSide) → table_line step clerk side ≡ Ok next
     → next.committed ≡ set_after step side
-step_keeps Begin clerk side next e = begun_keeps clerk side next side.draft e
+step_keeps Begin clerk side next e =
+    (elim side.draft as (λ held. begun_from side clerk held ≡ Ok next → next.committed ≡ side.committed) [ None ↦ λ begun. cc | Some draft ↦ λ begun. absurd cc ]) e
 step_keeps Commit clerk side next e =
     let made = committed_inverts side clerk next e in
     rw made.1 (ap (λ (s : TimingSide). s.committed) made.2.becomes)
-step_keeps Abandon clerk side next e = abandoned_keeps side next side.draft e
+step_keeps Abandon clerk side next e =
+    (elim side.draft as (λ held. abandoned_from side held ≡ Ok next → next.committed ≡ side.committed) [ None ↦ λ dropped. absurd cc | Some draft ↦ λ dropped. cc ]) e
 step_keeps _ clerk side next e = owned_keeps _ _ clerk _ side next e
 
 -- ---- one step
