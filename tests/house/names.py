@@ -45,7 +45,7 @@ MEANT = {
         "ped_columns place_of row_of "
         "view_code width_of",
     "what the desk does with a record, of the register and of a plan":
-        "Makes WantsMemory row_change_of row_changes_of",
+        "Makes row_change_of row_changes_of",
 }
 
 

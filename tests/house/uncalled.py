@@ -32,7 +32,6 @@ MEANT = {
     "a command that is made of its record, for a caller that has one":
         "Command::inspect Command::open_order Command::use_part Command::close_order "
         "Command::receive",
-    "a database that is given back, for tables over any store": "SqlShelf::into_conn",
     "how many rows were written, for a caller that counts them": "Shelf::writes",
 }
 CALL = re.compile(r"( *)(pub )?(?:const )?fn (\w+)")

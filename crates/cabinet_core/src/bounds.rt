@@ -1,14 +1,13 @@
 //! What the types of the records guarantee to callers: numbers, days and texts are within their
 //! limits.
 
-ghost use Rattle.std.specs.Prelude.{IfSome};
-ghost use Rattle.cabinet_core.specs.Within.{IsInspectionWithin, IsOpeningWithin, IsClosingWithin, IsOrderWithin, IsUsedLineWithin, IsDeliveryWithin, IsRecordWithin};
+ghost use Rattle.cabinet_core.specs.Within.{IsInspectionWithin, IsOpeningWithin, IsClosingWithin, IsUsedLineWithin, IsDeliveryWithin, IsRecordWithin};
 
 use crate::command::RecordCommand;
-use crate::record::{Closing, Delivery, Inspection, Opening, Order, UsedLine};
+use crate::record::{Closing, Delivery, Inspection, Opening, UsedLine};
 
 /// Shows that an inspection is within its limits, which its types ensure.
-pub fn inspection_is_within(inspection: &Inspection)
+pub(crate) fn inspection_is_within(inspection: &Inspection)
     ensures { IsInspectionWithin inspection.now }
 {
     let _numbers = (inspection.number.get(), inspection.day.number());
@@ -33,27 +32,8 @@ pub(crate) fn closing_is_within(closing: &Closing)
     let _closer = closing.closer.as_str();
 }
 
-/// Shows that a closing, if there is one, is within its limits.
-fn any_closing_is_within(closing: &Option<Closing>)
-    ensures { IfSome closing.now IsClosingWithin }
-{
-    if let Some(closing) = closing {
-        closing_is_within(closing);
-    }
-}
-
-/// Shows that an order is within its limits, which its types ensure.
-pub fn order_is_within(order: &Order)
-    ensures { IsOrderWithin order.now }
-{
-    let _numbers = (order.number.get(), order.opened.number());
-    let _clerk = order.clerk.as_str();
-    let _text = order.text.as_str();
-    any_closing_is_within(&order.closing);
-}
-
 /// Shows that a used part is within its limits, which its types ensure.
-pub fn used_line_is_within(used: &UsedLine)
+pub(crate) fn used_line_is_within(used: &UsedLine)
     ensures { IsUsedLineWithin used.now }
 {
     let _numbers = (used.order.get(), used.line.get(), used.count.get());
@@ -61,7 +41,7 @@ pub fn used_line_is_within(used: &UsedLine)
 }
 
 /// Shows that a delivery is within its limits, which its types ensure.
-pub fn delivery_is_within(delivery: &Delivery)
+pub(crate) fn delivery_is_within(delivery: &Delivery)
     ensures { IsDeliveryWithin delivery.now }
 {
     let _numbers = (

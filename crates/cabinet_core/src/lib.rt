@@ -12,10 +12,7 @@ mod part;
 mod record;
 mod refusal;
 
-pub use bounds::{
-    delivery_is_within, inspection_is_within, order_is_within, record_is_within,
-    used_line_is_within,
-};
+pub use bounds::record_is_within;
 pub use command::RecordCommand;
 pub use day::{Date, Day, push_date, read_day, write_date, write_day};
 pub use decide::{CabinetChange, Recorded, close_order, inspect, open_order, receive, use_part};

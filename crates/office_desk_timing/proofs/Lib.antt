@@ -7,5 +7,6 @@ pub mod ListedIntersections
 pub mod Moved
 pub mod Keeps
 pub mod Transactions
+pub mod Turns
 pub mod Revisions
 pub mod Shown

@@ -17,6 +17,7 @@ use Rattle.office_tables_decisions.specs.{declared.decided.Decided.Decided}
 use Rattle.office_desk_timing.specs.Revising.{AreChangesTo, IsCommittedAlready, PlansChanges, plan_asked, plan_from, AnswersAnyEdit, DecidesEdit, EditWrites, IsEditDecision, IsMoved}
 use Rattle.office_desk_timing.specs.Moving.{TellsDecision, rows_of_move, rows_to, said_to}
 use Rattle.office_desk_timing.specs.{declared.revising.PlanEdit.PlanEdit, Reading.Finds, declared.reading.Found.Found}
+use Rattle.office_desk_timing.proofs.Turns.{all_are}
 use Rattle.office_desk_timing.proofs.Transactions.{comes, if_ok, listed_many, news_to, none_written, refused_to, undamaged_to, written}
 use Rattle.office_desk_timing.proofs.{Keeps.IsSoundSide, Keeps.line_keeps, IntersectionTable.not_there, ReadBack.found_there}
 use Rattle.office_tables_shelf.specs.declared.rows.Table.TheVariants as table
@@ -174,7 +175,7 @@ module _ (is_honest : Type 0) (tables : Content) (id : ℕ) (clerk : List ℕ) (
               edits,
               plans.within,
               (edits_make it.0.stands plans).make,
-              it.1.1,
+              all_are office id clerk it.0.i (taking_up it.0.i.timing.draft) (Edit edits) (committing edit.commits _) it.0.there ∙ it.1.1,
             )));
             stand = it.1.2;
           };

@@ -25,7 +25,7 @@ if_ok r more h = grind arith
 
 -- ---- a line of the table is followed
 
-by_line : (step : Step) (office : Office) (id : ℕ) (clerk : List ℕ) → answered office (asking_command id clerk step) ≡ transacted office id (table_line step clerk) (get office.intersections id)
+pub by_line : (step : Step) (office : Office) (id : ℕ) (clerk : List ℕ) → answered office (asking_command id clerk step) ≡ transacted office id (table_line step clerk) (get office.intersections id)
 by_line step office id clerk = grind arith
 
 -- what comes of a line of the table: its reply, and the office, for which the tables then stand

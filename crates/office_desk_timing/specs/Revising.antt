@@ -1,16 +1,30 @@
--- How a clerk's edit of a plan is answered: by the steps of a revision, all of them or none.
-use Rattle.std.specs.Prelude.{◌≡◌, ◌≢◌, ◌⊎◌, ◌≤◌, ℕ, List, [], length, if◌then◌else◌, Option, Some, None, Result, Ok, Err}
+-- How a clerk's edit of a plan is answered: as a run of the steps of a revision by the office machine, all of them or none.
+use Rattle.std.specs.Prelude.{◌≡◌, ◌≢◌, ◌⊎◌, ◌≤◌, ℕ, List, [], ◌∷◌, length, map, if◌then◌else◌, Option, Some, None, Result, Ok, Err}
 use Rattle.std.specs.FinMap.{empty, get}
-use Rattle.draft_core.specs.{Revising.base_of, Revising.lines_of, Revising.revision_steps, Transaction.TimingSide, Within.AreChangesWithin, declared.timing.Timing.Timing}
+use Rattle.draft_core.specs.{Revising.base_of, Revising.revision_steps, Transaction.TimingSide, Within.AreChangesWithin, declared.timing.Timing.Timing}
 use Rattle.office_desk_timing.specs.declared.revising.PlanEdit.{PlanEdit}
-use Rattle.office_machine.specs.{Office.Intersection, Office.Office, Office.side_at, Step.moved, declared.reply.Reply.Reply, declared.refusal.Refusal.TheVariants.Damaged, declared.refusal.Refusal.TheVariants.Unavailable, declared.refusal.Refusal.TheVariants.UnknownIntersection, declared.reply.Reply.TheVariants.Moved, declared.reply.Reply.TheVariants.Refused, declared.reply.Reply.TheVariants.Same}
-use Rattle.office_tables_decisions.specs.{Changes.IsRefused, Damage.HasDamageIn, StandFor.StandForSound, declared.decided.Decided.Decided}
+use Rattle.office_machine.specs.{Office.Intersection, Office.Office, Office.side_at, Step.answered, declared.command.Command.Command, declared.reply.Reply.Reply, declared.refusal.Refusal.TheVariants.Damaged, declared.refusal.Refusal.TheVariants.Unavailable, declared.refusal.Refusal.TheVariants.UnknownIntersection, declared.reply.Reply.TheVariants.Moved, declared.reply.Reply.TheVariants.Refused, declared.reply.Reply.TheVariants.Same}
+use Rattle.office_tables_decisions.specs.{Asking.asking_command, Changes.IsRefused, Damage.HasDamageIn, StandFor.StandForSound, declared.decided.Decided.Decided}
 use Rattle.office_tables_shelf.specs.{Change.AddNew, Change.changed_by, Content.Content, Counts.writes_in, Shelf.rows_of, declared.rows.RowChange.RowChange, declared.shelf.ShelfFault.ShelfFault}
 use Rattle.signal_plans.specs.{Difference.AreTold, Difference.difference_changes, declared.difference.Difference.Difference}
 use Rattle.signal_records.specs.{TimingSet.Rows, TimingSet.after_changes, declared.record.Change.Change, declared.state.DbState.TheVariants.Normal}
 use Rattle.draft_core.specs.declared.timing.Reach.TheVariants as reach
 use Rattle.office_tables_shelf.specs.declared.rows.Table.TheVariants as table
 use Rattle.office_tables_shelf.specs.declared.shelf.ShelfFault.TheVariants as fault
+
+-- ---- commands, all of them or none
+
+-- a refusal ends a run of commands, and the office is as it was before the first; any other reply goes on
+abbrev pub unless_refused : (before : Office) → Reply → (more : Reply × Office) → Reply × Office
+unless_refused before (Refused why) more = (Refused why, before)
+unless_refused before reply more = more
+
+-- ALL OR NONE: the last reply and the office after these commands, each answered by the office that the one before it left; or the first refusal, and the
+-- office before the first command
+abbrev pub all_or_none : (before now : Office) → (last : Reply) → List Command → Reply × Office
+all_or_none before now last [] = (last, now)
+all_or_none before now last (asked ∷ more) =
+    unless_refused before (answered now asked).0 (all_or_none before (answered now asked).1 (answered now asked).0 more)
 
 -- ---- what an edit asks for
 
@@ -27,14 +41,13 @@ abbrev pub IsCommittedAlready : PlanEdit → TimingSide → Type 0
 IsCommittedAlready edit side = (side.draft ≡ None) × (plan_asked edit side ≡ side.committed)
 
 -- AN EDIT, of an intersection that is there or not. Where nothing is to be done, the reply is Same. Else edits within their limits make the plan, and the reply
--- and the next office are what comes of the steps of a revision by these edits, ALL OF THEM OR NONE: each takes its line of the transaction table, from the
--- timing side that the one before it left; or the first refusal, which leaves the office
+-- and the next office are those of the steps of a revision by these edits, as commands of the clerk, all or none
 abbrev pub EditsOffice : Office → ℕ → (clerk : List ℕ) → PlanEdit → Option Intersection → Reply → Office → Type 0
 EditsOffice office id clerk edit None reply next = (reply ≡ Refused UnknownIntersection) × (next ≡ office)
 EditsOffice office id clerk edit (Some i) reply next =
     (IsCommittedAlready edit i.timing × (reply ≡ Same) × (next ≡ office))
     ⊎ ((IsCommittedAlready edit i.timing → ⊥) × (edits : List Change) × AreChangesWithin edits × (after_changes (base_of i.timing) edits ≡ plan_asked edit i.timing)
-    × (moved office id i (lines_of clerk (revision_steps i.timing edits edit.commits) i.timing) ≡ (reply, next)))
+    × (all_or_none office office Same (map (asking_command id clerk) (revision_steps i.timing edits edit.commits)) ≡ (reply, next)))
 
 -- ---- over tables
 

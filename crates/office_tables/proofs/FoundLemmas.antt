@@ -11,7 +11,7 @@ use Rattle.office_tables_sql.specs.Version.{version_of}
 use Rattle.sqlite_catalog.specs.Listing.{AreListed}
 use Rattle.sqlite_schema.specs.declared.schema.Schema.{Schema}
 use Rattle.sqlite_trees.specs.Objects.{catalog_tree}
-use Rattle.office_tables.specs.{Moved.all_put, Moved.rows_named, Opening.Finds, Opening.FindsIn, declared.open.OpenFault.OpenFault}
+use Rattle.office_tables.specs.{Moved.all_put, Moved.rows_named, Opening.FindsTables, Opening.FindsIn, declared.open.OpenFault.OpenFault}
 use Rattle.office_tables.proofs.MovedLemmas.{moved_whole}
 use Rattle.office_tables_statements.specs.Layout as layout
 use Rattle.office_tables.specs.declared.open.OpenFault.TheVariants as fault
@@ -44,7 +44,7 @@ no_version rows none = ap version_of (none_of rows none) ∙ get-empty cells_cmp
 
 -- ---- what is found by the rows of the tables that a file lists
 
-pub finds : (trees : Trees) (schema : Schema) → AreListed (trees catalog_tree) schema → (found : Result (Vec (Table × Row) Global) OpenFault) → FindsIn schema.tables trees found → Finds found trees
+pub finds : (trees : Trees) (schema : Schema) → AreListed (trees catalog_tree) schema → (found : Result (Vec (Table × Row) Global) OpenFault) → FindsIn schema.tables trees found → FindsTables found trees
 finds trees schema listed (Ok rows) it = ((schema, listed, it.1), (schema, listed, ap (all_put no_content) it.0 ∙ moved_whole (rows_named schema.tables trees)))
 finds trees schema listed (Err fault.Version) it = (schema, listed, it)
 finds trees schema listed (Err fault.Damaged) it = (schema, listed, it)

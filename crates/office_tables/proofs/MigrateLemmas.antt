@@ -15,7 +15,7 @@ use Rattle.office_tables_statements.specs.{Calls.IsHonest, Calls.IsOffice, Calls
 use Rattle.office_tables_statements.proofs.CallLemmas.{survives_on}
 use Rattle.office_tables_sql.specs.Version.{Completes, version_in, first_version}
 use Rattle.office_tables.specs.{Opening.WritesToday, Migration.IsMigrated, Migrate.IsAnew, Migrate.MayBecome, Migrate.Migrates, declared.open.OpenFault.OpenFault, declared.rewritten.Migrated.Migrated, declared.rewritten.Spelled.Spelled, declared.rewritten.Spelled.TheVariants.Timing, declared.rewritten.Spelled.TheVariants.Draft, declared.rewritten.TheConstants.TIMING, declared.rewritten.TheConstants.DRAFT}
-use Rattle.office_tables.specs.Rewritten.{IsFormer, Kept, Puts, former_columns, has_ped, kept_key, put_again, puts, table_of}
+use Rattle.office_tables.specs.Rewritten.{IsFormer, KeptRow, Puts, former_columns, has_ped, kept_key, put_again, puts, spelled_table}
 use Rattle.office_tables.proofs.Migration.{migrated}
 use Rattle.office_tables_shelf.specs.declared.rows.Table.TheVariants as table
 use Rattle.office_tables.specs.declared.open.OpenFault.TheVariants as fault
@@ -122,13 +122,13 @@ one_key row found id mine (Put r) in_found within body first keys columns =
     let here : id ≡ mine = cc in
     keys ∙ (λ i. timing_key (here i) (key_of (sym same i)))
 
-pub other_key : (t : Spelled) (row : Row) (found : TimingRow) (mine : ℕ) (x : Kept) → IsRowWithin version_1_limits found → cell_of (column row 4) ≡ text (body_in version_1_limits found)
-    → cell_of (column row 0) ≡ number (pos mine) → IsFormer t x → key_shown (table_of t) row ≡ kept_key x → columns_shown (table_of t) row ≡ former_columns x → shown_key row ≡ timing_key mine (key_of found)
+pub other_key : (t : Spelled) (row : Row) (found : TimingRow) (mine : ℕ) (x : KeptRow) → IsRowWithin version_1_limits found → cell_of (column row 4) ≡ text (body_in version_1_limits found)
+    → cell_of (column row 0) ≡ number (pos mine) → IsFormer t x → key_shown (spelled_table t) row ≡ kept_key x → columns_shown (spelled_table t) row ≡ former_columns x → shown_key row ≡ timing_key mine (key_of found)
 other_key Timing row found mine (id, Put r) in_found body first within keys columns = one_key row found id mine (Put r) in_found within.1 body first keys columns
 other_key Timing row found mine (id, Remove k) in_found body first within keys columns = absurd within.1
 other_key Draft row found mine (id, change) in_found body first within keys columns = one_key row found id mine change in_found within.1 body first keys columns
 
-pub five_wide : (t : Spelled) → width_of (table_of t) ≡ 5
+pub five_wide : (t : Spelled) → width_of (spelled_table t) ≡ 5
 five_wide Timing = refl
 five_wide Draft = refl
 
@@ -137,7 +137,7 @@ pub shift : {X Y Z : Type 0} (f : X → Z) (g : Y → Z) (xs : List X) (x : X) (
 shift f g [] x y ys same = ap (λ z. z ∷ map g ys) same
 shift f g (w ∷ xs) x y ys same = ap (λ zs. f w ∷ zs) (shift f g xs x y ys same)
 
-pub puts_more : (t : Spelled) (kept : List Kept) (k : Kept) → puts t (kept ++ k ∷ []) ≡ puts t kept ++ puts t (k ∷ [])
+pub puts_more : (t : Spelled) (kept : List KeptRow) (k : KeptRow) → puts t (kept ++ k ∷ []) ≡ puts t kept ++ puts t (k ∷ [])
 puts_more t [] k = refl
 puts_more t (x ∷ kept) k = elim (cases_Bool (has_ped x.1)) [
   | inl some ↦ rw some (ap (λ cs. put_again t x ∷ cs) (puts_more t kept k))

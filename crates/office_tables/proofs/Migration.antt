@@ -15,7 +15,7 @@ use Rattle.office_tables_decisions.specs.StandFor.{IsTimingKey, HasTimingKeys, I
 use Rattle.office_tables_shelf.proofs.CellLemmas.{cells_total, cells_exact, is_under, find_entry, get_by, tied}
 use Rattle.office_tables_shelf.proofs.{ListLemmas.less, ListLemmas.parts, RowLemmas.same_left}
 use Rattle.office_tables_statements.specs.Tables.{stored_for}
-use Rattle.office_tables.specs.Rewritten.{AreKept, IsFormer, Kept, former_columns, has_ped, kept_key, put_again, puts, table_of}
+use Rattle.office_tables.specs.Rewritten.{AreKept, IsFormer, KeptRow, former_columns, has_ped, kept_key, put_again, puts, spelled_table}
 use Rattle.office_tables.specs.{Migration.kept_columns, Migration.IsMigrated, Migration.StandAnew, declared.rewritten.Migrated.Migrated, declared.rewritten.Spelled.Spelled, declared.rewritten.Spelled.TheVariants.Timing, declared.rewritten.Spelled.TheVariants.Draft}
 use Rattle.office_tables.proofs.MovedLemmas.{its_rows, last_rows, own_rows}
 use Rattle.std.specs.FinMap as finite
@@ -25,26 +25,26 @@ use Rattle.signal_records.specs.declared.record.Row.TheVariants as row
 -- ---- the rows that are put
 
 -- the table with a row put where it is spelled otherwise
-abbrev step : TableRows → Kept → TableRows
+abbrev step : TableRows → KeptRow → TableRows
 step rows k = if has_ped k.1 then insert rows (kept_key k) (kept_columns k) else rows
 
-abbrev puts_in : TableRows → List Kept → TableRows
+abbrev puts_in : TableRows → List KeptRow → TableRows
 puts_in rows [] = rows
 puts_in rows (k ∷ ks) = puts_in (step rows k) ks
 
-one_put : (t : Spelled) (tables : Content) (k : Kept) → has_ped k.1 ≡ true → changed tables (put_again t k) ≡ put_in tables (table_of t) (kept_key k) (kept_columns k)
+one_put : (t : Spelled) (tables : Content) (k : KeptRow) → has_ped k.1 ≡ true → changed tables (put_again t k) ≡ put_in tables (spelled_table t) (kept_key k) (kept_columns k)
 one_put Timing tables (id, Put r) some = refl
 one_put Timing tables (id, Remove key) some = absurd (true≢false (sym some))
 one_put Draft tables k some = refl
 
 -- the changes put these rows
-all_put : (t : Spelled) (tables : Content) (ks : List Kept) → changed_by tables (puts t ks) ≡ with_rows tables (table_of t) (puts_in (rows_at tables (table_of t)) ks)
-all_put t tables [] = sym (own_rows (table_of t) tables)
+all_put : (t : Spelled) (tables : Content) (ks : List KeptRow) → changed_by tables (puts t ks) ≡ with_rows tables (spelled_table t) (puts_in (rows_at tables (spelled_table t)) ks)
+all_put t tables [] = sym (own_rows (spelled_table t) tables)
 all_put t tables (k ∷ ks) = elim (cases_Bool (has_ped k.1)) [
   | inl some ↦
-      let rows = insert (rows_at tables (table_of t)) (kept_key k) (kept_columns k) in
-      rw some (ap (λ (c : Content). changed_by c (puts t ks)) (one_put t tables k some) ∙ all_put t (with_rows tables (table_of t) rows) ks
-      ∙ last_rows (table_of t) tables rows _ ∙ ap (λ (r : TableRows). with_rows tables (table_of t) (puts_in r ks)) (its_rows (table_of t) tables rows))
+      let rows = insert (rows_at tables (spelled_table t)) (kept_key k) (kept_columns k) in
+      rw some (ap (λ (c : Content). changed_by c (puts t ks)) (one_put t tables k some) ∙ all_put t (with_rows tables (spelled_table t) rows) ks
+      ∙ last_rows (spelled_table t) tables rows _ ∙ ap (λ (r : TableRows). with_rows tables (spelled_table t) (puts_in r ks)) (its_rows (spelled_table t) tables rows))
   | inr none ↦ rw none (all_put t tables ks)
 ]
 
@@ -56,39 +56,39 @@ unfolding body_in
 phase_alike p phase None is none = rw is refl
 phase_alike p phase (Some ped) is none = absurd (true≢false (rw is at none))
 
-alike : (k : Kept) → has_ped k.1 ≡ false → former_columns k ≡ kept_columns k
+alike : (k : KeptRow) → has_ped k.1 ≡ false → former_columns k ≡ kept_columns k
 unfolding body_in
 alike (id, Put (row.Phase p phase)) none = ap (λ (bytes : List ℕ). text bytes ∷ []) (phase_alike p phase phase.ped refl none)
 alike _ none = refl
 
 module _ (q : List Cell) where
-  abbrev hits : Kept → Bool
+  abbrev hits : KeptRow → Bool
   hits = is_under kept_key kept_columns q
 
-  hit_step : (rows : TableRows) (k : Kept) → hits k ≡ true → get rows q ≡ Some (former_columns k) → get (step rows k) q ≡ Some (kept_columns k)
+  hit_step : (rows : TableRows) (k : KeptRow) → hits k ≡ true → get rows q ≡ Some (former_columns k) → get (step rows k) q ≡ Some (kept_columns k)
   hit_step rows k hit is = elim (cases_Bool (has_ped k.1)) [
     | inl some ↦ rw some (rw (get-insert cells_total rows (kept_key k) (kept_columns k) q, hit))
     | inr none ↦ rw none (is ∙ ap Some (alike k none))
   ]
 
-  missed_step : (rows : TableRows) (k : Kept) → hits k ≡ false → get (step rows k) q ≡ get rows q
+  missed_step : (rows : TableRows) (k : KeptRow) → hits k ≡ false → get (step rows k) q ≡ get rows q
   missed_step rows k miss = elim (cases_Bool (has_ped k.1)) [
     | inl some ↦ rw some (rw (get-insert cells_total rows (kept_key k) (kept_columns k) q, miss))
     | inr none ↦ rw none refl
   ]
 
-  missed : (rows : TableRows) (ks : List Kept) → AllByRecursion (λ k. hits k ≡ false) ks → get (puts_in rows ks) q ≡ get rows q
+  missed : (rows : TableRows) (ks : List KeptRow) → AllByRecursion (λ k. hits k ≡ false) ks → get (puts_in rows ks) q ≡ get rows q
   missed rows [] none = refl
   missed rows (k ∷ ks) none = missed (step rows k) ks none.1 ∙ missed_step rows k none.0
 
   -- no later row of a list in order has the key of the first
-  apart_after : (k : Kept) (ks : List Kept) → T (below_all cells_cmp (kept_key k) (map (stored_for kept_key former_columns) ks)) → hits k ≡ true → AllByRecursion (λ x. hits x ≡ false) ks
+  apart_after : (k : KeptRow) (ks : List KeptRow) → T (below_all cells_cmp (kept_key k) (map (stored_for kept_key former_columns) ks)) → hits k ≡ true → AllByRecursion (λ x. hits x ≡ false) ks
   apart_after k [] below hit = tt
   apart_after k (x ∷ ks) below hit =
       let p = parts _ _ below in
       (ap (λ (c : List Cell). is_eq (cells_cmp c (kept_key x))) (cells_exact q (kept_key k) (tied _ hit)) ∙ ap is_eq (less _ p.0), apart_after k ks p.1 hit)
 
-  spelled : (rows : TableRows) (ks : List Kept) → T (is_sorted cells_cmp (map (stored_for kept_key former_columns) ks)) → get rows q ≡ option_map former_columns (find hits ks)
+  spelled : (rows : TableRows) (ks : List KeptRow) → T (is_sorted cells_cmp (map (stored_for kept_key former_columns) ks)) → get rows q ≡ option_map former_columns (find hits ks)
       → get (puts_in rows ks) q ≡ option_map kept_columns (find hits ks)
   spelled rows [] sorted is = is
   spelled rows (k ∷ ks) sorted is =
@@ -98,7 +98,7 @@ module _ (q : List Cell) where
         | inr miss ↦ rw miss (spelled (step rows k) ks p.1 (missed_step rows k miss ∙ rw miss at is))
       ]
 
-module _ (t : Spelled) (rows : TableRows) (ks : List Kept) (kept : AreKept t (entries rows) ks) where
+module _ (t : Spelled) (rows : TableRows) (ks : List KeptRow) (kept : AreKept t (entries rows) ks) where
   was : (q : List Cell) → get rows q ≡ option_map former_columns (find (hits q) ks)
   was q = get-entries rows q ∙ ap (finite.find cells_cmp q) (sym kept.stored) ∙ find_entry kept_key former_columns ks q
 
@@ -109,7 +109,7 @@ module _ (t : Spelled) (rows : TableRows) (ks : List Kept) (kept : AreKept t (en
       same_map cells_total cells_exact _ _ (λ q. spelled q rows ks sorted (was q) ∙ sym (get_by kept_key kept_columns ks q))
 
 -- the tables after the puts
-pub migrated : (old : Content) (timing drafts : List Kept) → AreKept Timing (entries old.timing) timing → AreKept Draft (entries old.draft) drafts
+pub migrated : (old : Content) (timing drafts : List KeptRow) → AreKept Timing (entries old.timing) timing → AreKept Draft (entries old.draft) drafts
     → IsMigrated old (changed_by (changed_by old (puts Timing timing)) (puts Draft drafts)) (record { timing = length (puts Timing timing); draft = length (puts Draft drafts) })
 migrated old timing drafts timing_kept drafts_kept =
     let first = anew Timing old.timing timing timing_kept in
@@ -119,13 +119,13 @@ migrated old timing drafts timing_kept drafts_kept =
     mid ∙ (λ i. record old { timing = first i; draft = second i }) in
     rw whole (record {
       kept = both timing drafts;
-      before = λ t. elim t as (λ t. AreKept t (entries (rows_at old (table_of t))) (both timing drafts t)) [ Timing ↦ timing_kept | Draft ↦ drafts_kept ];
-      after = λ t. elim t as (λ t. rows_at (record old { timing = rows_by kept_key kept_columns timing; draft = rows_by kept_key kept_columns drafts }) (table_of t) ≡ rows_by kept_key kept_columns (both timing drafts t)) [ Timing ↦ refl | Draft ↦ refl ];
+      before = λ t. elim t as (λ t. AreKept t (entries (rows_at old (spelled_table t))) (both timing drafts t)) [ Timing ↦ timing_kept | Draft ↦ drafts_kept ];
+      after = λ t. elim t as (λ t. rows_at (record old { timing = rows_by kept_key kept_columns timing; draft = rows_by kept_key kept_columns drafts }) (spelled_table t) ≡ rows_by kept_key kept_columns (both timing drafts t)) [ Timing ↦ refl | Draft ↦ refl ];
       others = refl;
       count_is = refl;
     })
   where
-    both : List Kept → List Kept → Spelled → List Kept
+    both : List KeptRow → List KeptRow → Spelled → List KeptRow
     both timing drafts Timing = timing
     both timing drafts Draft = drafts
 
@@ -176,14 +176,14 @@ judged_alike set are = same_violations set (λ p. phase_no_lead p (get set (key.
 
 -- ---- the office that the tables stand for
 
-left_within : (t : Spelled) (k : Kept) → IsFormer t k → IfSome (left_by k.1) (IsRowWithin version_1_limits)
+left_within : (t : Spelled) (k : KeptRow) → IsFormer t k → IfSome (left_by k.1) (IsRowWithin version_1_limits)
 left_within Timing (id, Put r) within = within.1
 left_within Draft (id, Put r) within = within.1
 left_within t (id, Remove k) within = tt
 
-module _ (t : Spelled) (old new : TableRows) (ks : List Kept) (before : AreKept t (entries old) ks) (after : new ≡ rows_by kept_key kept_columns ks) where
+module _ (t : Spelled) (old new : TableRows) (ks : List KeptRow) (before : AreKept t (entries old) ks) (after : new ≡ rows_by kept_key kept_columns ks) where
   -- a row that was found, and what it leaves
-  kept_anew : (q : List Cell) (k : Kept) (left : Option Row) → find (hits q) ks ≡ Some k → IfSome left (IsRowWithin version_1_limits)
+  kept_anew : (q : List Cell) (k : KeptRow) (left : Option Row) → find (hits q) ks ≡ Some k → IfSome left (IsRowWithin version_1_limits)
       → former_columns k ≡ left_columns_in version_1_limits left → Some (kept_columns k) ≡ Some (left_columns_in current_limits left)
   kept_anew q k left at within cells =
       let in_k = all_has (IsFormer t) ks k before.within (has_found (hits q) ks k at).0 in
@@ -194,7 +194,7 @@ module _ (t : Spelled) (old new : TableRows) (ks : List Kept) (before : AreKept 
       ap (λ (rows : TableRows). get rows q) after ∙ get_by kept_key kept_columns ks q
       ∙ go (find (hits q) ks) refl said within (sym (was t old ks before q) ∙ is)
     where
-      go : (o : Option Kept) → find (hits q) ks ≡ o → (said : Said) → IsSaidIn version_1 at_key said
+      go : (o : Option KeptRow) → find (hits q) ks ≡ o → (said : Said) → IsSaidIn version_1 at_key said
           → option_map former_columns o ≡ said_columns_in version_1_limits said → option_map kept_columns o ≡ said_columns_in current_limits said
       go None at silent within e = refl
       go (Some k) at (leaves r) within e = kept_anew q k (Some r) at within.0 (cc)
@@ -204,7 +204,7 @@ module _ (t : Spelled) (old new : TableRows) (ks : List Kept) (before : AreKept 
   keys_anew : HasTimingKeys new
   keys_anew q columns is = go (find (hits q) ks) refl (sym (get_by kept_key kept_columns ks q) ∙ sym (ap (λ (rows : TableRows). get rows q) after) ∙ is)
     where
-      go : (o : Option Kept) → find (hits q) ks ≡ o → option_map kept_columns o ≡ Some columns → IsTimingKey q
+      go : (o : Option KeptRow) → find (hits q) ks ≡ o → option_map kept_columns o ≡ Some columns → IsTimingKey q
       go None at e = absurd (let none = e in cc)
       go (Some k) at e = (k.0, changed_key k.1, cells_exact q (kept_key k) (tied _ (has_found (hits q) ks k at).1))
 

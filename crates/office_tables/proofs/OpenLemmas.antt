@@ -8,7 +8,7 @@ use Rattle.sqlite_catalog.specs.Listing.{AreListed}
 use Rattle.office_tables_shelf.specs.Content.{Content}
 use Rattle.office_tables_statements.specs.{Schema.office_schema, Calls.IsHonest, Calls.IsOffice, Calls.Keeps, Stored.content_now, Stored.content_of}
 use Rattle.office_tables.specs.{Arranged.IsArranged, Arranged.IsUnchanged, SqlShelf.SqlView, declared.open.OpenFault.OpenFault}
-use Rattle.office_tables.specs.Found.{Hold, MayBeMade, TakesOver, Tells}
+use Rattle.office_tables.specs.Found.{Hold, MayBeMade, TakesOver, TellsOfTables}
 use Rattle.office_tables.specs.Opening.{IsAsFound, IsCheckedAgain, IsCleanStore, IsOpenIfClean, IsPrepared, IsRefused, IsTaken, Opens as OpensShelf, Prepares, WritesToday, store_left}
 use Rattle.office_tables.proofs.{ArrangedLemmas.tables_rise, MovedLemmas.office_hold, VersionLemmas.are_today}
 use Rattle.office_tables_sql.specs.{Version.AreToday, Version.Completes, Version.version_in, Version.current_version}
@@ -27,7 +27,7 @@ arranged_office s autocommit schema settled sound arranged = record {
 }
 
 -- a fault of the store tells nothing of the tables
-pub tells_none : (why : OpenFault) (trees : Trees) → why ≢ fault.Version → why ≢ fault.Damaged → Tells why trees
+pub tells_none : (why : OpenFault) (trees : Trees) → why ≢ fault.Version → why ≢ fault.Damaged → TellsOfTables why trees
 tells_none fault.Version trees other sound = absurd (other refl)
 tells_none fault.Damaged trees other sound = absurd (sound refl)
 tells_none _ trees other sound = tt
@@ -133,7 +133,7 @@ module _ {S : Type 0} (g : Ghosts S) (conn : Held S) where
     prepares_before (Err e) it =
         let early : IsCleanStore g (store_left g e.1) → HasCleanDisk (state g c) = λ h. omega (arith, h, it.left.clean) in
         record {
-          told = λ h. subst (Tells e.0) (kept (early h)) (it.told h);
+          told = λ h. subst (TellsOfTables e.0) (kept (early h)) (it.told h);
           left = record {
             clean = omega (arith, it.left.clean, found.clean);
             committed = λ h up. it.left.committed h up ∙ kept (early h);

@@ -52,10 +52,10 @@ abbrev pub HasRowsAlone : Trees → Type 0
 HasRowsAlone = TellIn (Some fault.Damaged)
 
 -- what a fault tells of a file
-abbrev pub Tells : OpenFault → Trees → Type 0
-Tells fault.Version trees = HasOtherVersion trees
-Tells fault.Damaged trees = HasRowsAlone trees
-Tells _ trees = Unit {0}
+abbrev pub TellsOfTables : OpenFault → Trees → Type 0
+TellsOfTables fault.Version trees = HasOtherVersion trees
+TellsOfTables fault.Damaged trees = HasRowsAlone trees
+TellsOfTables _ trees = Unit {0}
 
 -- the tables of a file may be made anew
 abbrev pub MayBeMade : Trees → Type 0

@@ -8,7 +8,7 @@ use Rattle.sqlite_schema.specs.Names.{table_named}
 use Rattle.office_machine.specs.Office.{Office, version_1}
 use Rattle.office_tables_decisions.specs.StandFor.{StandForSoundIn}
 use Rattle.office_tables_statements.specs.{Calls.IsHonest, Calls.StaysOpen, Stored.content_of}
-use Rattle.office_tables.specs.{Rewritten.HasDamage, Migration.IsMigrated, declared.found.TheConstants.KEEPER, declared.rewritten.Migrated.Migrated, declared.rewritten.Spelled.Spelled, declared.open.OpenFault.OpenFault, declared.version.TheConstants.FIND}
+use Rattle.office_tables.specs.{Rewritten.HasFormerDamage, Migration.IsMigrated, declared.found.TheConstants.KEEPER, declared.rewritten.Migrated.Migrated, declared.rewritten.Spelled.Spelled, declared.open.OpenFault.OpenFault, declared.version.TheConstants.FIND}
 use Rattle.office_tables_sql.specs.Promises.{KeepsCommitted, Settles}
 use Rattle.office_tables_sql.specs.Version.{AreToday, version_in, current_version, first_version}
 use Rattle.office_tables.specs.declared.open.OpenFault.TheVariants as fault
@@ -59,7 +59,7 @@ module _ {S : Type 0} (g : Ghosts S) where
 -- version 1 is stored, and cells stand in `timing` or `draft` in which it kept nothing
 pub record HasDamagedFormer (trees : Trees) : Type 0 where
   pub was : version_in trees ≡ Some first_version
-  pub damage : (t : Spelled) × HasDamage t (content_of trees)
+  pub damage : (t : Spelled) × HasFormerDamage t (content_of trees)
 
 -- version 1 is stored, and the tables, read as version 1 reads them, stand for the office, which is
 -- sound by the rules of version 1

@@ -7,18 +7,18 @@ use Rattle.office_tables_shelf.specs.{Cells.Cell, Cells.rows_by, Content.Content
 use Rattle.office_machine.specs.Office.{Office, side_at}
 use Rattle.office_tables_decisions.specs.StandFor.{StandForSound}
 use Rattle.office_tables.specs.declared.rewritten.{Migrated.Migrated, Spelled.Spelled, Spelled.TheVariants.Timing, Spelled.TheVariants.Draft}
-use Rattle.office_tables.specs.Rewritten.{AreKept, Kept, kept_key, puts, table_of}
+use Rattle.office_tables.specs.Rewritten.{AreKept, KeptRow, kept_key, puts, spelled_table}
 
 -- the cells of a row or a removal beside its key, as today's version spells them
-abbrev pub kept_columns : Kept → List Cell
+abbrev pub kept_columns : KeptRow → List Cell
 kept_columns kept = draft_columns kept.1
 
 -- the tables of version 1 were brought to today's version, only `timing` and `draft` changed, and the rows that were
 -- written anew were counted
 pub record IsMigrated (old new : Content) (count : Migrated) : Type 0 where
-  pub kept : Spelled → List Kept
-  pub before : (t : Spelled) → AreKept t (entries (rows_at old (table_of t))) (kept t)
-  pub after : (t : Spelled) → rows_at new (table_of t) ≡ rows_by kept_key kept_columns (kept t)
+  pub kept : Spelled → List KeptRow
+  pub before : (t : Spelled) → AreKept t (entries (rows_at old (spelled_table t))) (kept t)
+  pub after : (t : Spelled) → rows_at new (spelled_table t) ≡ rows_by kept_key kept_columns (kept t)
   pub others : new ≡ record old { timing = new.timing; draft = new.draft }
   pub count_is : count ≡ record { timing = length (puts Timing (kept Timing)); draft = length (puts Draft (kept Draft)) }
 

@@ -8,7 +8,7 @@ use Rattle.office_tables_shelf.specs.{Content.Content, Content.no_content, Count
 use Rattle.office_tables_statements.specs.Calls.{IsHonest, IsOffice, IsReady, StandsOn, StaysOpen}
 use Rattle.office_tables_statements.specs.Stored.{content_now, content_of}
 use Rattle.office_tables.specs.{Arranged.IsArranged, SqlShelf.IsCurrent, SqlShelf.SqlView, Moved.all_put, Moved.moved_from, Moved.rows_named, declared.found.TheConstants.KEEPER, declared.gather.TheConstants.CHILDREN_FIRST, declared.open.OpenFault.OpenFault}
-use Rattle.office_tables.specs.Found.{Hold, IsOurs, MayBeMade, TakesOver, Tell, Tells}
+use Rattle.office_tables.specs.Found.{Hold, IsOurs, MayBeMade, TakesOver, Tell, TellsOfTables}
 use Rattle.sqlite_schema.specs.declared.schema.Table.{Table as SqlTable}
 use Rattle.office_tables_sql.specs.{Promises.KeepsCommitted, Promises.WasHonest, Version.Completes}
 
@@ -25,9 +25,9 @@ FindsIn tables trees found = MatchResult found
 
 -- what is read of the tables of a file: the rows that they hold, which may be put into tables made
 -- anew, or why not
-abbrev pub Finds : Result (Vec (Table × Row) Global) OpenFault → Trees → Type 0
-Finds (Ok rows) trees = MayBeMade trees × Hold trees (all_put no_content rows.items)
-Finds (Err why) trees = Tells why trees
+abbrev pub FindsTables : Result (Vec (Table × Row) Global) OpenFault → Trees → Type 0
+FindsTables (Ok rows) trees = MayBeMade trees × Hold trees (all_put no_content rows.items)
+FindsTables (Err why) trees = TellsOfTables why trees
 
 -- a sound database without views, in which each table has one of the office's names
 pub record AreOurs (db : Database) : Type 0 where
@@ -125,7 +125,7 @@ module _ {S : Type 0} (g : Ghosts S) where
   -- What is known where an opening is refused. A commit that failed may be found after a crash: then the office's tables took over.
   -- A connection that comes back is in no transaction, or it is the one that was given.
   pub record IsRefused (conn : Held S) (why : OpenFault) (back : Result (Held S) S) : Type 0 where
-    pub told : IsCleanStore (store_left back) → Tells why (state g conn).committed.trees
+    pub told : IsCleanStore (store_left back) → TellsOfTables why (state g conn).committed.trees
     pub left : IsLeft conn (λ trees. (state g conn).may_leave trees ⊎ TakesOver (state g conn).committed.trees trees) (store_left back)
     pub idle : IfOk back (λ c. (c.in_transaction ≡ false) ⊎ (c ≡ conn))
 

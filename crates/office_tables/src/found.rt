@@ -8,7 +8,7 @@ ghost use Rattle.sqlite_value.specs.{Value.owned, declared.value.Value.TheVarian
 ghost use Rattle.office_tables_shelf.specs.Cells.{number};
 ghost use Rattle.office_tables.specs.Arranged.{IsUnchanged};
 ghost use Rattle.office_tables.specs.Found.{IsOurs, IsVersionKeeper, KeepVersion, Tell};
-ghost use Rattle.office_tables.specs.Opening.{ChecksAgain, Finds, FindsIn, IsAsFound, IsCheckedAgain, IsTaken};
+ghost use Rattle.office_tables.specs.Opening.{ChecksAgain, FindsTables, FindsIn, IsAsFound, IsCheckedAgain, IsTaken};
 ghost use Rattle.office_tables_sql.specs.{Promises.IsSettled, Version.version_of};
 
 use crate::gather::{CHILDREN_FIRST, Moved, gather, read_named};
@@ -213,7 +213,7 @@ pub(crate) fn read_again<S: Alter + Drop>(
     ensures again { MatchResult result (λ f. IsCheckedAgain S.Store conn f.1)
         (λ e. IsAsFound S.Store conn e.1) }
     ensures finds { IfOk result (λ f. HasCleanDisk (state S.Store f.1) →
-        Finds f.0 (state S.Store conn).committed.trees) }
+        FindsTables f.0 (state S.Store conn).committed.trees) }
 {
     let copied = conn.schema().copy(alloc);
     let mut store = store_of(conn)?;

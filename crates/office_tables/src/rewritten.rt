@@ -7,7 +7,7 @@ ghost use Rattle.office_tables_shelf.specs.Reads.{IsNoRow};
 ghost use Rattle.office_tables_statements.specs.Calls.{IsHonest, IsOffice, Keeps, TellsOpen};
 ghost use Rattle.office_tables_statements.specs.Stored.{content_now};
 ghost use Rattle.office_tables_statements.specs.Tables.{IsListText, columns_shown, key_shown, row_shown, rows_at, stored_for, width_of};
-ghost use Rattle.office_tables.specs.Rewritten.{former_columns, kept_key, HasDamage, IsFormer, Puts, ShowsDamage, puts, table_of};
+ghost use Rattle.office_tables.specs.Rewritten.{former_columns, kept_key, HasFormerDamage, IsFormer, Puts, ShowsDamage, puts, spelled_table};
 
 use office_tables_shelf::rows::RowChange;
 use office_tables_shelf::shelf::ShelfFault;
@@ -49,11 +49,11 @@ pub(crate) const DRAFT: &str =
 /// NULL, the removal of the key. `Damaged` means that version 1 kept neither in these cells.
 fn read(alloc: Global, table: Spelled, row: &SqlRow) -> Result<(InterId, Change), ShelfFault>
     ensures shown { IfOk result (λ kept. stored_for kept_key former_columns kept
-        ≡ row_shown (table_of table) row.now) }
+        ≡ row_shown (spelled_table table) row.now) }
     ensures former { IfOk result (IsFormer table) }
-    ensures damaged { result ≡ Err ShelfFault.Damaged → length row.now ≡ width_of (table_of table) →
+    ensures damaged { result ≡ Err ShelfFault.Damaged → length row.now ≡ width_of (spelled_table table) →
         IsNoRow (IsFormer table) kept_key former_columns
-        (key_shown (table_of table) row.now) (columns_shown (table_of table) row.now) }
+        (key_shown (spelled_table table) row.now) (columns_shown (spelled_table table) row.now) }
 {
     let id = ranged_at(row, 0)?;
     let Some(found) = body_at(alloc, Version::First, row, 4)? else {
@@ -97,7 +97,7 @@ fn put_rows(
     rows: Vec<SqlRow>,
     changes: &mut Vec<RowChange>,
 ) -> Result<(), ShelfFault>
-    ensures puts { OnOk result (Puts table (map (row_shown (table_of table)) rows.items)
+    ensures puts { OnOk result (Puts table (map (row_shown (spelled_table table)) rows.items)
         changes.old.items changes.new.items) }
     ensures damaged { result ≡ Err ShelfFault.Damaged → ShowsDamage table rows.items }
 {
@@ -119,13 +119,13 @@ pub(crate) fn put_former<S: Alter>(
     changes: &mut Vec<RowChange>,
 ) -> Result<(), ShelfFault>
     requires office { IsOffice (state S.Store conn.old) }
-    requires query { IsListText (table_of table) None sql.now }
+    requires query { IsListText (spelled_table table) None sql.now }
     ensures puts { IsHonest (state S.Store conn.new) → OnOk result (Puts table
-        (entries (rows_at (content_now (state S.Store conn.old)) (table_of table)))
+        (entries (rows_at (content_now (state S.Store conn.old)) (spelled_table table)))
         changes.old.items changes.new.items) }
     ensures grows { OnOk result (length changes.old.items ≤ length changes.new.items) }
     ensures damaged { result ≡ Err ShelfFault.Damaged → IsHonest (state S.Store conn.new) →
-        HasDamage table (content_now (state S.Store conn.old)) }
+        HasFormerDamage table (content_now (state S.Store conn.old)) }
     ensures open { TellsOpen result (state S.Store conn.new) }
     ensures kept { Keeps (state S.Store conn.old) (state S.Store conn.new) }
 {

@@ -12,7 +12,7 @@ abbrev pub IsRefused : Reply → Type 0
 IsRefused (Refused refusal) = Unit {0}
 IsRefused _ = ⊥
 
--- the command is a query: it changes nothing
+-- the command is a query
 abbrev pub is_query : Command → Bool
 is_query (command.State id) = true
 is_query (command.Timing id) = true
@@ -23,6 +23,7 @@ is_query command.Stock = true
 is_query (command.Overdue day) = true
 is_query _ = false
 
+-- the command is a query: it changes nothing
 abbrev pub IsQueryCommand : Command → Type 0
 IsQueryCommand command = T (is_query command)
 

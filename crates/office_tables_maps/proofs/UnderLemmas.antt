@@ -4,7 +4,7 @@ use Rattle.std.proofs.lemmas.{Bool.cases_Bool, Bool.Decides.nat_tests, Cmp.nat_c
 use Rattle.std.specs.{Cmp.tied_itself, Ordering.nat_cmp, BTreeMap.Range.entries_between, BTreeMap.Range.range_contains, FinMap.entries, FinMap.Entries.where_key, List.AllByRecursion, List.Sorted.IsStrictlySortedBy, Map.keys_of, Ordering.is_gt, Ordering.is_le, Ordering.ordering_then, declared.ops.Bound.TheVariants.Included, declared.cmp.Ordering.TheVariants.Less, declared.cmp.Ordering.TheVariants.Equal, declared.cmp.Ordering.TheVariants.Greater}
 use Rattle.office_tables_shelf.specs.{CabinetReads.IsOfOne, Cells.Cell, Cells.cells_cmp, Content.Content, Content.is_of, Content.rows_at, Content.rows_but, Reads.HasDamagedRow, Shelf.rows_of, declared.rows.Table.Table}
 use Rattle.office_tables_shelf.proofs.{CabinetLemmas.of_number, ListLemmas.cells_of, ListLemmas.where_all, ListedRows.listed_whole, TreeLemmas.then_last}
-use Rattle.office_tables_maps.specs.{Keys.AreKeyLaws, Keys.Keys, Keys.beside, Records.under, Records.under_laws, Stored.ArePlaced, Stored.Stored, Stored.stored_rows}
+use Rattle.office_tables_maps.specs.{Keys.AreKeyLaws, Keys.Keys, Keys.beside, Records.under_intersection, Records.under_laws, Stored.ArePlaced, Stored.Stored, Stored.stored_rows}
 use Rattle.office_tables_maps.proofs.TreeRows.{rows_kept, tree_entries}
 
 -- What a walk found is all that it finds of a tree, once none of the entries is left.
@@ -43,7 +43,7 @@ module _ {K X : Type 0} {R : K → K → Ordering} {keys : Keys K} (laws : AreKe
       (then_last (nat_cmp id id) ∙ tied_itself nat_cmp_total id)
       ∙ not_over (R keys.first keys.last) (laws.from_first keys.last laws.last_is_key)
 
-  pub between : (id : ℕ) (es : List ((ℕ × K) × X)) → ArePlaced (under keys) kind es
+  pub between : (id : ℕ) (es : List ((ℕ × K) × X)) → ArePlaced (under_intersection keys) kind es
       → entries_between (beside R) (Included (id, keys.first)) (Included (id, keys.last)) es
       ≡ entries_of id es
   between id [] h = refl
@@ -55,23 +55,23 @@ module _ {K X : Type 0} {R : K → K → Ordering} {keys : Keys K} (laws : AreKe
 
   -- the cells of a record of an intersection
   abbrev pub shown : ℕ → X → List Cell × List Cell
-  shown id x = ((under keys).cells (kind.own (id, keys.first) x), kind.columns x)
+  shown id x = ((under_intersection keys).cells (kind.own (id, keys.first) x), kind.columns x)
 
   -- the records of an intersection are what the rows have of it, and each is within its limits
   pub all_under : IsOfNumber → (id : ℕ) (es : List ((ℕ × K) × X)) → IsStrictlySortedBy (beside R) (keys_of es)
-      → ArePlaced (under keys) kind es
-      → (map (shown id) (records_of id es) ≡ rows_of id (stored_rows (under keys) kind es))
+      → ArePlaced (under_intersection keys) kind es
+      → (map (shown id) (records_of id es) ≡ rows_of id (stored_rows (under_intersection keys) kind es))
       × AllByRecursion kind.is_within (records_of id es)
   all_under of id es sorted placed =
       let each = go es placed in (
         each.0 ∙ ap (where_key cells_cmp (is_of id)) (sym (tree_entries (beside R)
-            (under keys).cells kind.columns (under_laws laws).ordered es sorted)),
+            (under_intersection keys).cells kind.columns (under_laws laws).ordered es sorted)),
         each.1,
       )
     where
-      go : (es : List ((ℕ × K) × X)) → ArePlaced (under keys) kind es
+      go : (es : List ((ℕ × K) × X)) → ArePlaced (under_intersection keys) kind es
           → (map (shown id) (records_of id es)
-          ≡ where_key cells_cmp (is_of id) (map (cells_of (under keys).cells kind.columns) es))
+          ≡ where_key cells_cmp (is_of id) (map (cells_of (under_intersection keys).cells kind.columns) es))
           × AllByRecursion kind.is_within (records_of id es)
       go [] h = (refl, tt)
       go (e ∷ es) h =
@@ -81,8 +81,8 @@ module _ {K X : Type 0} {R : K → K → Ordering} {keys : Keys K} (laws : AreKe
                 let same : kind.own (id, keys.first) e.1 ≡ e.0 =
                 ap (λ n. kind.own (n, keys.first) e.1) (sym (eqb-true e.0.0 id hit))
                 ∙ sym (of e.0 e.1) ∙ h.0.0 in
-                let here : shown id e.1 ≡ cells_of (under keys).cells kind.columns e =
-                ap (λ k. ((under keys).cells k, kind.columns e.1)) same in
+                let here : shown id e.1 ≡ cells_of (under_intersection keys).cells kind.columns e =
+                ap (λ k. ((under_intersection keys).cells k, kind.columns e.1)) same in
                 rw (of_number id e.0.0 (keys.cells e.0.1), hit)
                 ((λ i. here i ∷ rest.0 i), (h.0.1.1, rest.1))
             | inr miss ↦ rw (of_number id e.0.0 (keys.cells e.0.1), miss) rest
@@ -90,34 +90,34 @@ module _ {K X : Type 0} {R : K → K → Ordering} {keys : Keys K} (laws : AreKe
 
   -- the rows of all other intersections
   pub other_rows : (id : ℕ) (es : List ((ℕ × K) × X))
-      → stored_rows (under keys) kind (filter (λ e. not (e.0.0 == id)) es)
-      ≡ rows_but id (stored_rows (under keys) kind es)
+      → stored_rows (under_intersection keys) kind (filter (λ e. not (e.0.0 == id)) es)
+      ≡ rows_but id (stored_rows (under_intersection keys) kind es)
   other_rows id es =
-      ap (stored_rows (under keys) kind) (filter_agree _ _ (λ e.
+      ap (stored_rows (under_intersection keys) kind) (filter_agree _ _ (λ e.
       ap not (sym (of_number id e.0.0 (keys.cells e.0.1)))) es)
-      ∙ rows_kept (λ (e : (ℕ × K) × X). (under keys).cells e.0) (λ (e : (ℕ × K) × X). kind.columns e.1)
+      ∙ rows_kept (λ (e : (ℕ × K) × X). (under_intersection keys).cells e.0) (λ (e : (ℕ × K) × X). kind.columns e.1)
       (λ key. not (is_of id key)) es
 
   -- none of the rows is damaged
   pub whole : IsOfNumber → (t : Table) (tables : Content) (es : List ((ℕ × K) × X))
-      → rows_at tables t ≡ stored_rows (under keys) kind es → IsStrictlySortedBy (beside R) (keys_of es)
-      → ArePlaced (under keys) kind es → ¬ HasDamagedRow t (IsOfOne kind.is_within)
-      (λ (e : ℕ × X). (under keys).cells (kind.own (e.0, keys.first) e.1)) (λ e. kind.columns e.1) tables None
+      → rows_at tables t ≡ stored_rows (under_intersection keys) kind es → IsStrictlySortedBy (beside R) (keys_of es)
+      → ArePlaced (under_intersection keys) kind es → ¬ HasDamagedRow t (IsOfOne kind.is_within)
+      (λ (e : ℕ × X). (under_intersection keys).cells (kind.own (e.0, keys.first) e.1)) (λ e. kind.columns e.1) tables None
   whole of t tables es rows sorted placed =
       let each = go es placed in
       listed_whole t (IsOfOne kind.is_within)
-      (λ (e : ℕ × X). (under keys).cells (kind.own (e.0, keys.first) e.1)) (λ e. kind.columns e.1) tables None (map (λ (e : (ℕ × K) × X). (e.0.0, e.1)) es) (each.0
-      ∙ sym (tree_entries (beside R) (under keys).cells kind.columns (under_laws laws).ordered es sorted)
+      (λ (e : ℕ × X). (under_intersection keys).cells (kind.own (e.0, keys.first) e.1)) (λ e. kind.columns e.1) tables None (map (λ (e : (ℕ × K) × X). (e.0.0, e.1)) es) (each.0
+      ∙ sym (tree_entries (beside R) (under_intersection keys).cells kind.columns (under_laws laws).ordered es sorted)
       ∙ ap entries (sym rows) ∙ sym (where_all (entries (rows_at tables t)))) each.1
     where
-      go : (es : List ((ℕ × K) × X)) → ArePlaced (under keys) kind es
+      go : (es : List ((ℕ × K) × X)) → ArePlaced (under_intersection keys) kind es
           → (map (λ (e : ℕ × X). shown e.0 e.1) (map (λ (e : (ℕ × K) × X). (e.0.0, e.1)) es)
-          ≡ map (cells_of (under keys).cells kind.columns) es)
+          ≡ map (cells_of (under_intersection keys).cells kind.columns) es)
           × AllByRecursion (IsOfOne kind.is_within) (map (λ (e : (ℕ × K) × X). (e.0.0, e.1)) es)
       go [] h = (refl, tt)
       go (e ∷ es) h =
           let rest = go es h.1 in
           let own : kind.own (e.0.0, keys.first) e.1 ≡ e.0 = sym (of e.0 e.1) ∙ h.0.0 in (
-            (λ i. ((under keys).cells (own i), kind.columns e.1) ∷ rest.0 i),
+            (λ i. ((under_intersection keys).cells (own i), kind.columns e.1) ∷ rest.0 i),
             ((h.0.1.0.0, h.0.1.1), rest.1),
           )

@@ -10,50 +10,50 @@ use Rattle.office_tables_maps.specs.Keys.{AreKeyLaws, Keys, beside, last_order, 
 use Rattle.office_tables_maps.specs.Stored.{AreLaws, Places, Stored}
 
 -- places of records of intersections, each under the number and a key that the record names
-abbrev pub under : {K : Type 0} → Keys K → Places (ℕ × K)
-under keys = record {
+abbrev pub under_intersection : {K : Type 0} → Keys K → Places (ℕ × K)
+under_intersection keys = record {
   cells = λ k. number (pos k.0) ∷ keys.cells k.1;
   is_place = λ k. IsInRange 1 9999 k.0 × keys.is_key k.1;
 }
 
 -- they are ordered by their cells, and equal keys are one place
 pub under_laws : {K : Type 0} {R : K → K → Ordering} {keys : Keys K} → AreKeyLaws R keys
-    → AreLaws (beside R) (under keys)
+    → AreLaws (beside R) (under_intersection keys)
 under_laws {R = R} laws = record {
   ordered = λ a b i. ordering_then (ranged_order a.0 b.0 i) (laws.ordered a.1 b.1 i);
   exact = exact_pairs ranged_cmp R number_exact laws.exact;
 }
 
 -- records that name the key of their place
-abbrev pub keyed : {K X : Type 0} → (X → K) → (X → List Cell) → (X → Type 0) → Stored (ℕ × K) X
-keyed key columns is_within = record { own = λ k x. (k.0, key x); columns = columns; is_within = is_within }
+abbrev pub by_own_key : {K X : Type 0} → (X → K) → (X → List Cell) → (X → Type 0) → Stored (ℕ × K) X
+by_own_key key columns is_within = record { own = λ k x. (k.0, key x); columns = columns; is_within = is_within }
 
 -- committed rows
 abbrev pub timing_stored : Stored (ℕ × Key) Row
-timing_stored = keyed key_of timing_columns (IsRowWithin current_limits)
+timing_stored = by_own_key key_of timing_columns (IsRowWithin current_limits)
 
 -- draft rows, as the changes that they keep
 abbrev pub draft_stored : Stored (ℕ × Key) Change
-draft_stored = keyed changed_key draft_columns (IsChangeWithin current_limits)
+draft_stored = by_own_key changed_key draft_columns (IsChangeWithin current_limits)
 
 -- inspections, by their numbers
 abbrev pub inspection_stored : Stored (ℕ × ℕ) Inspection
-inspection_stored = keyed (λ x. x.number) inspection_columns IsInspectionWithin
+inspection_stored = by_own_key (λ x. x.number) inspection_columns IsInspectionWithin
 
 -- orders, by their numbers
 abbrev pub order_stored : Stored (ℕ × ℕ) Order
-order_stored = keyed (λ x. x.number) order_columns IsOrderWithin
+order_stored = by_own_key (λ x. x.number) order_columns IsOrderWithin
 
 -- used parts, by order and line
 abbrev pub used_stored : Stored (ℕ × (ℕ × ℕ)) UsedLine
-used_stored = keyed (λ x. (x.order, x.line)) used_columns IsUsedLineWithin
+used_stored = by_own_key (λ x. (x.order, x.line)) used_columns IsUsedLineWithin
 
 -- the places of intersections: their numbers
-abbrev pub numbers : Places ℕ
-numbers = record { cells = intersection_key; is_place = IsInRange 1 9999 }
+abbrev pub number_places : Places ℕ
+number_places = record { cells = intersection_key; is_place = IsInRange 1 9999 }
 
 -- they are ordered by their cells, and equal keys are one place
-pub number_laws : AreLaws ranged_cmp numbers
+pub number_laws : AreLaws ranged_cmp number_places
 number_laws = record { ordered = last_order; exact = number_exact }
 
 -- intersections

@@ -2,7 +2,7 @@
 
 ghost use Rattle.std.specs.Prelude.{◌≡◌, IfOk};
 ghost use Rattle.office_tables_maps.specs.Keys.{AreKeyLaws, Keys, plan_keys, plan_laws, record_keys, record_laws, line_keys, line_laws};
-ghost use Rattle.office_tables_maps.specs.Records.{numbers, number_laws, under, under_laws, codes, code_laws, delivery_places, delivery_laws};
+ghost use Rattle.office_tables_maps.specs.Records.{number_places, number_laws, under_intersection, under_laws, codes, code_laws, delivery_places, delivery_laws};
 ghost use Rattle.office_tables_maps.specs.Stored.{AreLaws, Places};
 
 use cabinet_core::PartCode;
@@ -23,7 +23,7 @@ pub(crate) trait TreePlace: Ord + Drop {
 }
 
 impl TreePlace for InterId {
-    ghost places = { numbers };
+    ghost places = { number_places };
 
     ghost laws = { number_laws };
 
@@ -33,7 +33,7 @@ impl TreePlace for InterId {
 }
 
 impl<K: Ends> TreePlace for (InterId, K) {
-    ghost places = { under K.keys };
+    ghost places = { under_intersection K.keys };
 
     ghost laws = { under_laws K.Ends.laws };
 

@@ -4,7 +4,7 @@
 ghost use Rattle.std.specs.Prelude.{◌≡◌, ℕ, IfOk, map, length};
 ghost use Rattle.std.specs.{List.AllByRecursion, declared.ops.Bound.TheVariants.Included};
 ghost use Rattle.office_tables_shelf.specs.{Content.rows_but, Shelf.rows_of};
-ghost use Rattle.office_tables_maps.specs.{Records.under, Stored.ArePlaced, Stored.stored_rows};
+ghost use Rattle.office_tables_maps.specs.{Records.under_intersection, Stored.ArePlaced, Stored.stored_rows};
 
 use crate::kept::Kept;
 use crate::place::Ends;
@@ -31,10 +31,10 @@ pub(crate) fn list_under<K: Ends, T: Kept<Place = (InterId, K)>>(
     inter: InterId,
 ) -> Result<Vec<T>, NoMemory>
     requires { (k : ℕ × K) (x : T) → T.stored.own k x ≡ T.stored.own (k.0, K.keys.first) x }
-    ensures rows { IfOk result (λ list. ArePlaced (under K.keys) T.stored rows.now.entries →
-        map (λ x. ((under K.keys).cells (T.stored.own (inter, K.keys.first) x), T.stored.columns x)) list.items
-        ≡ rows_of inter (stored_rows (under K.keys) T.stored rows.now.entries)) }
-    ensures within { IfOk result (λ list. ArePlaced (under K.keys) T.stored rows.now.entries →
+    ensures rows { IfOk result (λ list. ArePlaced (under_intersection K.keys) T.stored rows.now.entries →
+        map (λ x. ((under_intersection K.keys).cells (T.stored.own (inter, K.keys.first) x), T.stored.columns x)) list.items
+        ≡ rows_of inter (stored_rows (under_intersection K.keys) T.stored rows.now.entries)) }
+    ensures within { IfOk result (λ list. ArePlaced (under_intersection K.keys) T.stored rows.now.entries →
         AllByRecursion T.stored.is_within list.items) }
 {
     let mut list = Vec::new(alloc);
@@ -50,8 +50,8 @@ pub(crate) fn count_under<K: Ends, T: Kept<Place = (InterId, K)>>(
     inter: InterId,
 ) -> usize
     requires { (k : ℕ × K) (x : T) → T.stored.own k x ≡ T.stored.own (k.0, K.keys.first) x }
-    ensures { ArePlaced (under K.keys) T.stored rows.now.entries →
-        result ≡ length (rows_of inter (stored_rows (under K.keys) T.stored rows.now.entries)) }
+    ensures { ArePlaced (under_intersection K.keys) T.stored rows.now.entries →
+        result ≡ length (rows_of inter (stored_rows (under_intersection K.keys) T.stored rows.now.entries)) }
 {
     rows.range(all_of(inter)).count()
 }
@@ -61,10 +61,10 @@ pub(crate) fn drop_under<K: Ends, T: Kept<Place = (InterId, K)>>(
     rows: &mut BTreeMap<(InterId, K), T>,
     inter: InterId,
 )
-    ensures rows { stored_rows (under K.keys) T.stored rows.new.entries
-        ≡ rows_but inter (stored_rows (under K.keys) T.stored rows.old.entries) }
-    ensures placed { ArePlaced (under K.keys) T.stored rows.old.entries →
-        ArePlaced (under K.keys) T.stored rows.new.entries }
+    ensures rows { stored_rows (under_intersection K.keys) T.stored rows.new.entries
+        ≡ rows_but inter (stored_rows (under_intersection K.keys) T.stored rows.old.entries) }
+    ensures placed { ArePlaced (under_intersection K.keys) T.stored rows.old.entries →
+        ArePlaced (under_intersection K.keys) T.stored rows.new.entries }
 {
     rows.retain(|place, _| place.0 != inter);
 }

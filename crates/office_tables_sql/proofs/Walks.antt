@@ -9,7 +9,7 @@ use Rattle.office_tables_statements.proofs.TableLemmas.{among}
 use Rattle.std.proofs.Common.{Result, IfOk}
 use Rattle.sqlite.specs.{Given.HasGiven, Held.Held, Held.state, Order.Row, State.HasCleanDisk, State.IsUnchanged, State.Survives}
 use Rattle.sqlite_trees.specs.declared.store.Store.{Ghosts}
-use Rattle.office_tables_sql.specs.{Kept.Gathers, Kept.HasDamage, Kept.Kept, Promises.LooksUp}
+use Rattle.office_tables_sql.specs.{Kept.Gathers, Kept.HasStoredDamage, Kept.Kept, Promises.LooksUp}
 
 -- ---- the rows of one intersection
 
@@ -58,10 +58,10 @@ pub record Gathering {S Of X G : Type 0} (g : Ghosts S) (holds : G → List X �
   pub has_given : HasCleanDisk (state g now) → HasGiven g sql (params_of (kept.whose of)) now given
 
 module _ {S Of X G : Type 0} {g : Ghosts S} {holds : G → List X → Type 0} {kept : Kept Of X} {of : Of} {old new : Held S}
-    (result : Result G ShelfFault) (it : LooksUp g result (Gathers holds kept of) (HasDamage kept of) old new) where
+    (result : Result G ShelfFault) (it : LooksUp g result (Gathers holds kept of) (HasStoredDamage kept of) old new) where
   -- what follows of the records is given too
   pub gives_of : (Says : Content → G → Type 0) → ((tables : Content) (found : G) → Gathers holds kept of tables found → Says tables found)
-      → LooksUp g result Says (HasDamage kept of) old new
+      → LooksUp g result Says (HasStoredDamage kept of) old new
   gives_of Says follows = record {
     says = IfOk-weaker result _ _ (λ found told honest. follows _ found (told honest)) it.says;
     damaged = it.damaged;
@@ -70,10 +70,10 @@ module _ {S Of X G : Type 0} {g : Ghosts S} {holds : G → List X → Type 0} {k
   }
 
   -- none of the rows is damaged
-  pub none_damaged : IfOk result (λ _. IsHonest (state g new) → ¬ HasDamage kept of (content_now (state g old)))
+  pub none_damaged : IfOk result (λ _. IsHonest (state g new) → ¬ HasStoredDamage kept of (content_now (state g old)))
   none_damaged = IfOk-weaker result _ _ (λ found told honest. whole (told honest)) it.says
     where
-      whole : {tables : Content} {found : G} → Gathers holds kept of tables found → ¬ HasDamage kept of tables
+      whole : {tables : Content} {found : G} → Gathers holds kept of tables found → ¬ HasStoredDamage kept of tables
       whole {tables} all = listed_whole kept.table kept.is_within (kept.key of) kept.columns tables (kept.whose of) all.records
           (all.lists ∙ sym (among (kept.whose of) (rows_at tables kept.table))) all.within
 

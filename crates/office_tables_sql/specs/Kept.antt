@@ -17,8 +17,8 @@ abbrev pub keep : {Of X : Type 0} → Table → (Of → Option ℕ) → (Of → 
 keep table whose key columns is_within = record { table = table; whose = whose; key = key; columns = columns; is_within = is_within }
 
 -- a row that a list shows is no record
-abbrev pub HasDamage : {Of X : Type 0} → Kept Of X → Of → Content → Type 0
-HasDamage kept of tables = HasDamagedRow kept.table kept.is_within (kept.key of) kept.columns tables (kept.whose of)
+abbrev pub HasStoredDamage : {Of X : Type 0} → Kept Of X → Of → Content → Type 0
+HasStoredDamage kept of tables = HasDamagedRow kept.table kept.is_within (kept.key of) kept.columns tables (kept.whose of)
 
 -- the rows of a list, in the order of their keys, are those of records, each within its limits, and what was gathered holds what is to be known of these
 pub record Gathers {Of X G : Type 0} (holds : G → List X → Type 0) (kept : Kept Of X) (of : Of) (tables : Content) (found : G) : Type 0 where

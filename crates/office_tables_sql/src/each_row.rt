@@ -6,7 +6,7 @@ ghost use Rattle.sqlite.specs.{Held.state, Values.bound};
 ghost use Rattle.cabinet_core.specs.{Orders.is_open, Overdue.latest_day};
 ghost use Rattle.office_tables_shelf.specs.{CabinetReads.of_one, CabinetReads.HasAnyDamagedInspection, CabinetReads.HasAnyDamagedOrder, OpenOrders.orders_in, OpenOrders.ReadsOpen, Overdue.last_day_in, Overdue.ReadsLast};
 ghost use Rattle.office_tables_statements.specs.{Stored.content_now, Calls.IsHonest, Calls.IsOffice, Tables.params_of, Tables.ListsRows};
-ghost use Rattle.office_tables_sql.specs.{Kept.Gathers, Kept.HasDamage, Promises.LooksUp};
+ghost use Rattle.office_tables_sql.specs.{Kept.Gathers, Kept.HasStoredDamage, Promises.LooksUp};
 
 use crate::stored_row::StoredRow;
 use cabinet_core::{Day, Inspection, Order};
@@ -73,7 +73,7 @@ pub fn list<T: StoredRow, S: Alter>(
     requires office { IsOffice (state S.Store conn.old) }
     ensures read { LooksUp S.Store result (λ tables found. ListsRows T.kept.table (T.kept.key of)
         T.kept.columns tables (T.kept.whose of) found.items)
-        (HasDamage T.kept of) conn.old conn.new }
+        (HasStoredDamage T.kept of) conn.old conn.new }
     ensures within { IfOk result (λ found. IsHonest (state S.Store conn.new) →
         AllByRecursion T.kept.is_within found.items) }
 {
@@ -93,7 +93,7 @@ fn gather_rows<T: StoredRow, G: Gather<T>, S: Alter>(
     requires params { bound params.now ≡ params_of (T.kept.whose of) }
     requires office { IsOffice (state S.Store conn.old) }
     requires begun { G.holds begun [] }
-    ensures { LooksUp S.Store result (Gathers G.holds T.kept of) (HasDamage T.kept of)
+    ensures { LooksUp S.Store result (Gathers G.holds T.kept of) (HasStoredDamage T.kept of)
         conn.old conn.new }
 {
     let mut found = begun;

@@ -6,7 +6,7 @@ use Rattle.sqlite_disk.specs.declared.Disk.{Ghosts as Disk}
 use Rattle.sqlite_disk.specs.declared.Files.{Files}
 use Rattle.sqlite_store.specs.Laws.{settled_at}
 use Rattle.sqlite_trees.specs.{Props.Trees-set, declared.store.Store.Ghosts}
-use Rattle.office_tables.specs.{Found.HasOtherVersion, Found.HasRowsAlone, Found.Hold, Found.Tells}
+use Rattle.office_tables.specs.{Found.HasOtherVersion, Found.HasRowsAlone, Found.Hold, Found.TellsOfTables}
 use Rattle.office_tables_sql.specs.{Version.AreToday}
 use Rattle.office_tables.specs.Stored.{content_of}
 use Rattle.office_tables.specs.Opening.{IsCleanStore, IsRefused, store_left}
@@ -35,8 +35,8 @@ module _ {S : Type 0} (g : Ghosts S) (conn : Held S) (cause : OpenFault) (back :
 
   tells_none : (cause ≢ why.Version) × (cause ≢ why.Damaged)
   tells_none = (
-    (λ is. today_version trees today (subst HasOtherVersion same (subst (λ why. Tells why (state g conn).committed.trees) is (it.told clean)))),
-    (λ is. today_rows trees today (subst HasRowsAlone same (subst (λ why. Tells why (state g conn).committed.trees) is (it.told clean)))),
+    (λ is. today_version trees today (subst HasOtherVersion same (subst (λ why. TellsOfTables why (state g conn).committed.trees) is (it.told clean)))),
+    (λ is. today_rows trees today (subst HasRowsAlone same (subst (λ why. TellsOfTables why (state g conn).committed.trees) is (it.told clean)))),
   )
 
   leaves_same : ((db : Trees) → (state g conn).may_leave db → db ≡ (state g conn).committed.trees) → (db : Trees) → g.recovers (store_left g back) db → IsAlike trees db

@@ -3,14 +3,14 @@ use Rattle.std.proofs.lemmas.Result.{IfOk-weaker}
 use Rattle.sqlite.specs.Held.{state}
 use Rattle.office_tables_statements.specs.Stored.{content_now}
 use Rattle.office_tables_statements.proofs.StoredLists.{damaged_at, lists, width}
-use Rattle.office_tables.specs.Rewritten.{IsFormer, Puts, former_columns, kept_key, puts, table_of}
+use Rattle.office_tables.specs.Rewritten.{IsFormer, Puts, former_columns, kept_key, puts, spelled_table}
 use Rattle.office_tables.proofs.rewritten.put_former.Goals as goal
 
 pub returns-clause-puts : goal.returns-clause-puts
 returns-clause-puts g c honest =
     let office = c.requires.office in
     let was = c.select.ensures.kept.honest honest in
-    let listed = lists (table_of c.args.table) _ (office.schema was) (office.sound was) (office.ordered was) None _ c.requires.query _ (c.in_ok-rows.ensures.rows honest) in
+    let listed = lists (spelled_table c.args.table) _ (office.schema was) (office.sound was) (office.ordered was) None _ c.requires.query _ (c.in_ok-rows.ensures.rows honest) in
     IfOk-weaker c.put_rows.result _ _ (λ _ it. subst (λ cells. Puts c.args.table cells c.args.changes.now.items c.put_rows.new.changes.items) listed it) c.put_rows.ensures.puts
 
 pub returns-clause-grows : goal.returns-clause-grows
@@ -18,7 +18,7 @@ returns-clause-grows g c = IfOk-weaker c.put_rows.result _ _ (λ _ it. omega (ar
 
 pub returns-clause-damaged : goal.returns-clause-damaged
 returns-clause-damaged g c is honest =
-    let t = table_of c.args.table in
+    let t = spelled_table c.args.table in
     let office = c.requires.office in
     let was = c.select.ensures.kept.honest honest in
     let reads = c.in_ok-rows.ensures.rows honest in

@@ -1,12 +1,12 @@
 use Rattle.std.proofs.Common.{rules, ℕ, Bool, ◌==◌, not, sym, ap, subst, ◌∙◌}
 use Rattle.std.proofs.lemmas.{List.Elements.All-filter, List.Elements.All-from_recursion, List.Elements.recursion_from_All, Map.Made.filter_same_pairs}
-use Rattle.office_tables_maps.specs.{Records.under, Stored.ArePlaced, Stored.StandsUnder, Stored.stored_rows}
+use Rattle.office_tables_maps.specs.{Records.under_intersection, Stored.ArePlaced, Stored.StandsUnder, Stored.stored_rows}
 use Rattle.office_tables_maps.proofs.{UnderLemmas.other_rows}
 use Rattle.office_tables_maps.proofs.under.drop_under.Goals as goal
 
 pub returns : goal.returns
 returns g c =
-    let places = under g.K.Ends.keys in
+    let places = under_intersection g.K.Ends.keys in
     let kind = g.T.Kept.stored in
     let es = c.args.rows.now.entries in
     let other : (ℕ × g.row.K.Denot) × g.row.T.Denot → Bool = λ e. not (e.0.0 == c.args.inter) in

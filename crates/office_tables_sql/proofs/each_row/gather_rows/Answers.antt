@@ -4,7 +4,7 @@ use Rattle.sqlite.proofs.Callers.{given_begin, unchanged_then}
 use Rattle.office_tables_shelf.proofs.ListLemmas.{all_more}
 use Rattle.office_tables_shelf.specs.declared.shelf.ShelfFault.TheVariants.{Damaged}
 use Rattle.office_tables_statements.specs.{Calls.IsHonest, Calls.Keeps, Stored.content_now, Tables.params_of, Tables.row_shown, Tables.stored_for}
-use Rattle.office_tables_sql.specs.Kept.{Gathers, HasDamage}
+use Rattle.office_tables_sql.specs.Kept.{Gathers, HasStoredDamage}
 use Rattle.office_tables_statements.proofs.StoredLists.{lists, width, damaged_at}
 use Rattle.office_tables_sql.proofs.each_row.gather_rows.{Given.Over, Goals.In_default}
 use Rattle.office_tables_statements.proofs.CallLemmas.{survives_on, queried_survives, unqueried_keeps, starts, still_keeps, broken_keeps, all_read, some_read, has_mid, one_more}
@@ -100,7 +100,7 @@ returns-in_err-record g c =
     let office = c.requires.office in
     let step = c.in_default.ensures in
     let kept = keeps g mine in
-    let damaged : c.read.result ≡ Err Damaged → IsHonest (new g mine) → HasDamage g.T.StoredRow.kept c.args.of (content_now (old g mine)) = λ is h.
+    let damaged : c.read.result ≡ Err Damaged → IsHonest (new g mine) → HasStoredDamage g.T.StoredRow.kept c.args.of (content_now (old g mine)) = λ is h.
     let so_far = now.given ++ c.in-Some.row.now ∷ [] in
     let given = rw (← c.get.ensures, c.in-Some.is) at (gives g mine h.0) in
     let whole = some_read now.sql (_, now.is_list) _ office (new g mine) (survives_on _ _ _ now.crash step.survives) (step.mode now.mode) (unchanged g mine) _ _ _ now.is_list h so_far (given_begin g.S.Store now.sql _ c.advance.new.self.conn.now so_far given) in
