@@ -14,7 +14,7 @@ use Rattle.office_tables_shelf.proofs.{CellLemmas.cells_total, CellLemmas.cells_
 use Rattle.office_machine.specs.{Office.Office, Office.Intersection, Office.side_of, Step.with_intersection}
 use Rattle.office_tables_decisions.specs.StandFor.{StandFor, StandForSound, IsSaid, IsTimingKey, row_of, said_columns}
 use Rattle.office_tables_decisions.proofs.DraftLemmas.{get_listed_draft}
-use Rattle.office_desk_timing.specs.{Moving.moved_row, Moving.row_change_of, Moving.row_changes_of, Moving.rows_of_move, Reading.ReadsPlan, Reading.drafts_at, declared.reading.Found.Found}
+use Rattle.office_desk_timing.specs.{Moving.moved_row, Moving.row_change_of, Moving.row_changes_of, Moving.rows_of_move, Reading.ReadsPlan, Reading.drafts_at, declared.reading.ReadIntersection.ReadIntersection}
 use Rattle.office_desk_timing.proofs.{ReadBack.FoundThere, ReadBack.change_within, Stands.Spares, Stands.of_key, Stands.same_register, Stands.stand_after, Stands.unchanged}
 use Rattle.draft_core.specs.declared.timing.Reach.TheVariants as reach
 
@@ -143,7 +143,7 @@ after_within (change ∷ changes) key said within before = after_within changes 
 abbrev pub with_timing_side : Intersection → TimingSide → Intersection
 with_timing_side i next = record i { timing = next }
 
-pub move_stands : {reach : Reach} (tables : Content) (office : Office) (id : ℕ) (found : Found) (clerk : List ℕ) (move : Move) (next : TimingSide)
+pub move_stands : {reach : Reach} (tables : Content) (office : Office) (id : ℕ) (found : ReadIntersection) (clerk : List ℕ) (move : Move) (next : TimingSide)
     → (stands : StandForSound tables office) (at : FoundThere reach tables id found office stands)
     → AreChangesWithin (drafted_in move.changes) → Makes (drafts_at stands.stand id) at.i.timing clerk move next
     → StandFor (changed_by tables (rows_of_move id clerk found move)) (with_intersection office id (with_timing_side at.i next))
@@ -208,7 +208,7 @@ all_new id (change ∷ changes) tables {committed = committed} {said = said} kno
 -- ---- what was read
 
 -- the rows of a move, after the intersection's own row
-pub move_news : (r : Reach) (tables : Content) (id : ℕ) (found : Found) (row : IntersectionRow) (changes : List TimingChange)
+pub move_news : (r : Reach) (tables : Content) (id : ℕ) (found : ReadIntersection) (row : IntersectionRow) (changes : List TimingChange)
     → ReadsPlan r tables id found.timing.committed found.timing.delta → AddsOnlyNew r found.timing changes
     → AddNew tables (PutIntersection id row ∷ row_changes_of id changes)
 move_news reach.Plan tables id found row changes reads adds =

@@ -9,7 +9,7 @@ use Rattle.office_tables_shelf.specs.{Cells.Cell, Content.Content, Rows.draft_co
 use Rattle.office_tables_shelf.proofs.{CellLemmas.tied, RowLemmas.timing_columns_tell}
 use Rattle.office_machine.specs.Office.{Office, Intersection, side_at, side_of}
 use Rattle.office_tables_decisions.{proofs.DraftLemmas.get_listed_draft, specs.Committed.IsCommittedSet, specs.StandFor.IsSaid, specs.StandFor.StandForSound, specs.StandFor.row_of, specs.StandFor.said_columns}
-use Rattle.office_desk_timing.specs.{Reading.Finds, Reading.ReadsPlan, Reading.drafts_at, Reading.row_found, declared.reading.Found.Found}
+use Rattle.office_desk_timing.specs.{Reading.Finds, Reading.ReadsPlan, Reading.drafts_at, Reading.row_found, declared.reading.ReadIntersection.ReadIntersection}
 use Rattle.office_desk_timing.proofs.{IntersectionTable.there, Stands.Says, Stands.draft_says, Stands.timing_says}
 use Rattle.draft_core.specs.declared.timing.Reach.TheVariants as reach
 
@@ -79,13 +79,13 @@ plan_read reach.Plan tables office id timing stands reads = (
 -- ---- what was found
 
 -- the intersection that was found is there with its row, and what was found stands for its timing side, as far as that was read
-pub record FoundThere (reach : Reach) (tables : Content) (id : ℕ) (found : Found) (office : Office) (stands_for : StandForSound tables office) : Type 0 where
+pub record FoundThere (reach : Reach) (tables : Content) (id : ℕ) (found : ReadIntersection) (office : Office) (stands_for : StandForSound tables office) : Type 0 where
   pub i : Intersection
   pub there : get office.intersections id ≡ Some i
   pub row : row_found found ≡ row_of i
   pub stands : Stands reach found.timing (drafts_at stands_for.stand id) i.timing
 
-pub found_there : (reach : Reach) (tables : Content) (office : Office) (id : ℕ) (found : Found) (stands : StandForSound tables office)
+pub found_there : (reach : Reach) (tables : Content) (office : Office) (id : ℕ) (found : ReadIntersection) (stands : StandForSound tables office)
     → Finds reach tables id (Some found) → FoundThere reach tables id found office stands
 found_there reach tables office id found stands finds =
     let at = there tables office id stands (row_found found) finds.0 in

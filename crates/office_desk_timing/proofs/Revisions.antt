@@ -16,7 +16,7 @@ use Rattle.office_machine.specs.{Office.Intersection, Office.side_at, Office.sid
 use Rattle.office_tables_decisions.specs.{declared.decided.Decided.Decided}
 use Rattle.office_desk_timing.specs.Revising.{AreChangesTo, IsCommittedAlready, PlansChanges, plan_asked, plan_from, AnswersAnyEdit, DecidesEdit, EditWrites, IsEditDecision, IsMoved}
 use Rattle.office_desk_timing.specs.Moving.{TellsDecision, rows_of_move, rows_to, said_to}
-use Rattle.office_desk_timing.specs.{declared.revising.PlanEdit.PlanEdit, Reading.Finds, declared.reading.Found.Found}
+use Rattle.office_desk_timing.specs.{declared.revising.PlanEdit.PlanEdit, Reading.Finds, declared.reading.ReadIntersection.ReadIntersection}
 use Rattle.office_desk_timing.proofs.Turns.{all_are}
 use Rattle.office_desk_timing.proofs.Transactions.{comes, if_ok, listed_many, news_to, none_written, refused_to, undamaged_to, written}
 use Rattle.office_desk_timing.proofs.{Keeps.IsSoundSide, Keeps.line_keeps, IntersectionTable.not_there, ReadBack.found_there}
@@ -119,7 +119,7 @@ module _ (is_honest : Type 0) (tables : Content) (id : ℕ) (clerk : List ℕ) (
       record { next = office; step = inr (rw (not_there tables office id stands (finds honest)) (refl, refl)); stand = stands })
 
   -- of one that was found
-  module _ (found : Found) {edits settled : List Change} (plans : PlansChanges found.timing edit edits settled)
+  module _ (found : ReadIntersection) {edits settled : List Change} (plans : PlansChanges found.timing edit edits settled)
       (finds : is_honest → Finds Plan tables id (Some found)) where
     -- nothing is to be done
     pub idle_edit : (found.timing.holder ≡ None) × (settled ≡ []) → IsEditDecision is_honest tables id clerk edit Same []

@@ -8,7 +8,7 @@ use Rattle.draft_core.proofs.{Overlaid.draft_is}
 use Rattle.office_tables_shelf.specs.{Content.Content, Shelf.CountsTiming, Shelf.ReadsIntersection, declared.rows.IntersectionRow.IntersectionRow}
 use Rattle.office_machine.specs.{Office.Office, Office.Intersection, Office.side_of, Step.answered, Step.shown, Step.state_shown, Step.draft_shown, Step.timing_shown, declared.reply.Reply.Reply}
 use Rattle.office_tables_decisions.specs.{Committed.IsCommittedSet, StandFor.StandForSound}
-use Rattle.office_desk_timing.specs.{Decisions.IsVerdictOf, Reading.Finds, declared.reading.Found.Found}
+use Rattle.office_desk_timing.specs.{Decisions.IsVerdictOf, Reading.Finds, declared.reading.ReadIntersection.ReadIntersection}
 use Rattle.office_desk_timing.proofs.{IntersectionTable.not_there, IntersectionTable.sound_there, IntersectionTable.there, ReadBack.committed_read, ReadBack.found_there, ListedIntersections.committed_counted}
 use Rattle.draft_core.specs.declared.timing.Reach.TheVariants as reach
 use Rattle.office_machine.specs.declared.command.Command.TheVariants as command
@@ -57,7 +57,7 @@ state_shows tables office id row count verdict state owner stands reads counted 
     }))
 
 -- the verdict that draft_core reads from what was found
-pub verdict_found : (tables : Content) (id : ℕ) (row : IntersectionRow) (found : Found)
+pub verdict_found : (tables : Content) (id : ℕ) (row : IntersectionRow) (found : ReadIntersection)
     (verdict : Verdict) → Finds reach.Plan tables id (Some found)
     → ((rows : RowsByKey) (side : TimingSide) → Stands reach.Plan found.timing rows side
     → violations_of side.committed ≡ [] → verdict ≡ verdict_of side.draft)
@@ -90,7 +90,7 @@ held_draft : (d : Option Draft) (holder : Holder) → Some holder ≡ option_map
 held_draft None holder e = absurd cc
 held_draft (Some draft) holder e = (draft, refl, let same : holder_of draft ≡ holder = cc in same)
 
-module _ (tables : Content) (office : Office) (id : ℕ) (found : Found) (stands : StandForSound tables office) (finds : Finds reach.Plan tables id (Some found)) where
+module _ (tables : Content) (office : Office) (id : ℕ) (found : ReadIntersection) (stands : StandForSound tables office) (finds : Finds reach.Plan tables id (Some found)) where
   -- nobody holds one
   pub no_draft_shows : found.timing.holder ≡ None → answered office (command.Draft id) ≡ (draft_shown None, office)
   no_draft_shows free =

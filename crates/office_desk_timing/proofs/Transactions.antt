@@ -12,7 +12,7 @@ use Rattle.office_machine.specs.{Office.Office, Office.Intersection, Step.answer
 use Rattle.office_tables_decisions.specs.{Asking.asking_command, Answers.Answers, Changes.IsRefused, Changes.most_writes, Named.RefusesBy, Named.numbers_of, Deciding.Decides, Deciding.IsDecision, StandFor.StandForSound, declared.decided.Decided.Decided}
 use Rattle.office_tables_decisions.proofs.Decisions.{unknown_decides}
 use Rattle.office_desk_timing.specs.Moving.{TellsDecision, moved_row, row_changes_of, rows_to, said_to}
-use Rattle.office_desk_timing.specs.{Reading.Finds, Reading.ReadsPlan, Reading.drafts_at, declared.reading.Found.Found}
+use Rattle.office_desk_timing.specs.{Reading.Finds, Reading.ReadsPlan, Reading.drafts_at, declared.reading.ReadIntersection.ReadIntersection}
 use Rattle.office_desk_timing.proofs.{IntersectionTable.not_there, IntersectionTable.sound_there, Keeps.IsSoundSide, Keeps.line_keeps, Keeps.sound_intersection, Moved.move_news, Moved.move_stands, Moved.with_timing_side, ReadBack.FoundThere, ReadBack.found_there, Stands.sound_with}
 use Rattle.draft_core.specs.declared.refusal.DraftRefusal.TheVariants as draft
 use Rattle.office_tables_shelf.specs.declared.rows.Table.TheVariants as table
@@ -29,11 +29,11 @@ pub by_line : (step : Step) (office : Office) (id : ℕ) (clerk : List ℕ) → 
 by_line step office id clerk = grind arith
 
 -- what comes of a line of the table: its reply, and the office, for which the tables then stand
-abbrev pub Follow : Content → Office → ℕ → List ℕ → Found → Result Move DraftRefusal → Intersection → Result TimingSide DraftRefusal → Type 0
+abbrev pub Follow : Content → Office → ℕ → List ℕ → ReadIntersection → Result Move DraftRefusal → Intersection → Result TimingSide DraftRefusal → Type 0
 Follow tables office id clerk found decision i l =
     (next : Office) × (moved office id i l ≡ (said_to decision, next)) × StandForSound (changed_by tables (rows_to id clerk found decision)) next
 
-followed : {reach : Reach} (tables : Content) (office : Office) (id : ℕ) (clerk : List ℕ) (found : Found) (stands : StandForSound tables office)
+followed : {reach : Reach} (tables : Content) (office : Office) (id : ℕ) (clerk : List ℕ) (found : ReadIntersection) (stands : StandForSound tables office)
     (at : FoundThere reach tables id found office stands) (decision : Result Move DraftRefusal) (l : Result TimingSide DraftRefusal)
     → decision ≢ Err draft.NoMemory → IfOk decision (λ move. AreChangesWithin (drafted_in move.changes)) → ((next : TimingSide) → l ≡ Ok next → IsSoundSide next)
     → Follows (drafts_at stands.stand id) at.i.timing clerk decision l → Follow tables office id clerk found decision at.i l
@@ -52,7 +52,7 @@ followed tables office id clerk found stands at (Err why) l told drafts keeps (i
 followed tables office id clerk found stands at (Err why) l told drafts keeps (inr same) = (office, ap (moved office id at.i) same, stands)
 
 -- on what was found, by lines that keep a timing side sound and that the decision follows
-pub comes : (reach : Reach) (tables : Content) (id : ℕ) (clerk : List ℕ) (found : Found) (decision : Result Move DraftRefusal) (line : TimingSide → Result TimingSide DraftRefusal)
+pub comes : (reach : Reach) (tables : Content) (id : ℕ) (clerk : List ℕ) (found : ReadIntersection) (decision : Result Move DraftRefusal) (line : TimingSide → Result TimingSide DraftRefusal)
     → decision ≢ Err draft.NoMemory → IfOk decision (λ move. AreChangesWithin (drafted_in move.changes))
     → ((side next : TimingSide) → IsSoundSide side → line side ≡ Ok next → IsSoundSide next)
     → ((rows : RowsByKey) (side : TimingSide) → Stands reach found.timing rows side → violations_of side.committed ≡ [] → Follows rows side clerk decision (line side))
@@ -72,7 +72,7 @@ comes reach tables id clerk found decision line told drafts keeps follows finds 
 pub undamaged_to : (decision : Result Move DraftRefusal) → said_to decision ≢ Refused refusal.Damaged
 undamaged_to decision e = grind arith
 
-module _ (tables : Content) (id : ℕ) (clerk : List ℕ) (found : Found) where
+module _ (tables : Content) (id : ℕ) (clerk : List ℕ) (found : ReadIntersection) where
   pub refused_to : (decision : Result Move DraftRefusal) → IsRefused (said_to decision) → rows_to id clerk found decision ≡ []
   refused_to decision refused = grind arith
 
@@ -99,7 +99,7 @@ pub listed_many : (tables : Content) (id : ℕ) (changes : List Change) → List
 listed_many tables id changes lists = sym (ap length lists) ∙ length-map changes _
 
 -- the bounds of a step, of the draft rows that were read
-bounds : (tables : Content) (id : ℕ) (clerk : List ℕ) (found : Found) (step : Step) → ReadsPlan (reach_of step) tables id found.timing.committed found.timing.delta
+bounds : (tables : Content) (id : ℕ) (clerk : List ℕ) (found : ReadIntersection) (step : Step) → ReadsPlan (reach_of step) tables id found.timing.committed found.timing.delta
     → (most_writes tables (asking_command id clerk step) table.Intersection ≡ 1)
     × (most_writes tables (asking_command id clerk step) table.Timing ≡ most_committed step (length found.timing.delta))
     × (most_writes tables (asking_command id clerk step) table.Draft ≡ most_drafted step (length found.timing.delta))
@@ -108,7 +108,7 @@ bounds tables id clerk found Abandon reads = (refl, refl, listed_many tables id 
 bounds tables id clerk found _ reads = (refl, refl, refl)
 
 -- the rows of an answer are within the command's bounds
-few_to : (tables : Content) (id : ℕ) (clerk : List ℕ) (step : Step) (found : Found) (decision : Result Move DraftRefusal) (other : Table)
+few_to : (tables : Content) (id : ℕ) (clerk : List ℕ) (step : Step) (found : ReadIntersection) (decision : Result Move DraftRefusal) (other : Table)
     → ReadsPlan (reach_of step) tables id found.timing.committed found.timing.delta → IfOk decision (StepWrites step found.timing)
     → writes_in other (rows_to id clerk found decision) ≤ most_writes tables (asking_command id clerk step) other
 few_to tables id clerk step found (Ok move) table.Intersection reads writes =
@@ -131,7 +131,7 @@ module _ (is_honest : Type 0) (tables : Content) (id : ℕ) (clerk : List ℕ) (
   named_to holder decision told refuses = λ why e. grind arith
 
   -- on what was found
-  pub transact_decides : (found : Found) (decision : Result Move DraftRefusal) (result : Result Decided ShelfFault)
+  pub transact_decides : (found : ReadIntersection) (decision : Result Move DraftRefusal) (result : Result Decided ShelfFault)
       → AreWords 40 clerk → AreChangesWithin (asked_changes step)
       → (is_honest → Finds (reach_of step) tables id (Some found))
       → Takes step found.timing clerk decision → TellsDecision id clerk found decision result → Decides is_honest tables command result

@@ -7,7 +7,7 @@ use Rattle.office_tables_shelf.specs.declared.{rows.IntersectionRow.Intersection
 use Rattle.office_tables_shelf.specs.declared.rows.RowChange.TheVariants.{PutIntersection, AddTiming, PutTiming, RemoveTiming, AddDraft, PutDraft, RemoveDraft, DropDraft}
 use Rattle.office_machine.specs.{Step.refusal_of_draft, declared.reply.Reply.Reply, declared.reply.Reply.TheVariants.Moved, declared.reply.Reply.TheVariants.Refused}
 use Rattle.office_tables_decisions.specs.declared.decided.Decided.{Decided}
-use Rattle.office_desk_timing.specs.declared.reading.Found.{Found}
+use Rattle.office_desk_timing.specs.declared.reading.ReadIntersection.{ReadIntersection}
 use Rattle.office_tables_shelf.specs.declared.shelf.ShelfFault.TheVariants as fault
 
 -- a change of the committed rows or of the draft of an intersection's timing, as a change of the rows of the tables
@@ -25,7 +25,7 @@ abbrev pub row_changes_of : ℕ → List TimingChange → List RowChange
 row_changes_of id = map (row_change_of id)
 
 -- the row of an intersection that was found, after a move that this clerk made: its name and interval stay
-abbrev pub moved_row : Found → List ℕ → Move → IntersectionRow
+abbrev pub moved_row : ReadIntersection → List ℕ → Move → IntersectionRow
 moved_row found clerk move = record {
   name = found.name;
   interval = found.interval;
@@ -34,7 +34,7 @@ moved_row found clerk move = record {
 }
 
 -- the rows that a move writes: first the intersection's own, and then those of its timing side
-abbrev pub rows_of_move : ℕ → List ℕ → Found → Move → List RowChange
+abbrev pub rows_of_move : ℕ → List ℕ → ReadIntersection → Move → List RowChange
 rows_of_move id clerk found move = PutIntersection id (moved_row found clerk move) ∷ row_changes_of id move.changes
 
 -- ---- a decision of the transaction, as it is answered
@@ -45,7 +45,7 @@ said_to (Ok move) = Moved move.revision move.state move.verdict
 said_to (Err why) = Refused (refusal_of_draft why)
 
 -- a move is written, and for a refusal no row
-abbrev pub rows_to : ℕ → List ℕ → Found → Result Move DraftRefusal → List RowChange
+abbrev pub rows_to : ℕ → List ℕ → ReadIntersection → Result Move DraftRefusal → List RowChange
 rows_to id clerk found (Ok move) = rows_of_move id clerk found move
 rows_to id clerk found (Err why) = []
 
@@ -55,7 +55,7 @@ WantsMemory (Ok move) = Unit {0}
 WantsMemory (Err why) = why ≡ NoMemory
 
 -- the decision is answered, unless memory is refused
-abbrev pub TellsDecision : ℕ → List ℕ → Found → Result Move DraftRefusal → Result Decided ShelfFault → Type 0
+abbrev pub TellsDecision : ℕ → List ℕ → ReadIntersection → Result Move DraftRefusal → Result Decided ShelfFault → Type 0
 TellsDecision id clerk found decision (Ok decided) =
     (decision ≢ Err NoMemory) × (decided.reply ≡ said_to decision) × (decided.changes.items ≡ rows_to id clerk found decision)
 TellsDecision id clerk found decision (Err other) = WantsMemory decision × (other ≡ fault.NoMemory)

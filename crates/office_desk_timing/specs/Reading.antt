@@ -5,7 +5,7 @@ use Rattle.draft_core.specs.{DraftRows.RowsByKey, Within.AreChangesWithin, decla
 use Rattle.office_tables_shelf.specs.{Content.Content, Shelf.ListsDraft, Shelf.ReadsIntersection, declared.rows.IntersectionRow.IntersectionRow}
 use Rattle.office_machine.specs.Office.{Office}
 use Rattle.office_tables_decisions.specs.{Committed.IsCommittedSet, StandFor.StandFor}
-use Rattle.office_desk_timing.specs.declared.reading.Found.{Found}
+use Rattle.office_desk_timing.specs.declared.reading.ReadIntersection.{ReadIntersection}
 use Rattle.draft_core.specs.declared.timing.Reach.TheVariants as reach
 
 -- the tables hold this committed set and these draft rows of an intersection, as far as a step with this
@@ -17,7 +17,7 @@ ReadsPlan reach.Plan tables id committed drafts =
     ListsDraft tables id drafts × AreChangesWithin drafts × IsCommittedSet tables id committed
 
 -- the intersection's own row, as it was found
-abbrev pub row_found : Found → IntersectionRow
+abbrev pub row_found : ReadIntersection → IntersectionRow
 row_found found = record {
   name = found.name;
   interval = found.interval;
@@ -26,7 +26,7 @@ row_found found = record {
 }
 
 -- what was found is what the tables hold of an intersection: its own row, and its plan as far as it is read; where none was found, they hold no row of it
-abbrev pub Finds : Reach → Content → ℕ → Option Found → Type 0
+abbrev pub Finds : Reach → Content → ℕ → Option ReadIntersection → Type 0
 Finds reach tables id None = ReadsIntersection tables id None
 Finds reach tables id (Some found) =
     ReadsIntersection tables id (Some (row_found found)) × ReadsPlan reach tables id found.timing.committed found.timing.delta

@@ -4,7 +4,7 @@ ghost use Rattle.std.specs.{Prelude.◌≡◌, Prelude.◌∷◌, Prelude.◌==�
 ghost use Rattle.office_tables_decisions.specs.{Asking.asking_command, Deciding.Decides, Reads.OnlyReads};
 ghost use Rattle.office_desk_timing.specs.Moving.{TellsDecision, row_change_of, row_changes_of};
 
-use crate::reading::{Found, find, intersection_row};
+use crate::reading::{ReadIntersection, find, intersection_row};
 use draft_core::{DraftRefusal, Move, Revision, Step, TimingChange, TimingChanges, next_holder};
 use office_machine::command::Command;
 use office_machine::refusal::Refusal;
@@ -98,7 +98,7 @@ pub(crate) fn answer(
     alloc: Global,
     id: InterId,
     clerk: &Words<40>,
-    found: Found,
+    found: ReadIntersection,
     decision: Result<Move, DraftRefusal>,
 ) -> Result<Decided, ShelfFault>
     ensures { TellsDecision id clerk.now found decision result }

@@ -14,7 +14,7 @@ use std::alloc::Global;
 /// An intersection as it was read. Its timing lacks the committed set, or the draft rows too, where
 /// these were not asked for.
 #[derive(Drop)]
-pub struct Found {
+pub struct ReadIntersection {
     pub name: Words<120>,
     /// Days from one inspection of its cabinet to the next.
     pub interval: Interval,
@@ -65,7 +65,7 @@ pub(crate) fn find<S: Shelf>(
     alloc: Global,
     id: InterId,
     reach: Reach,
-) -> Result<Option<Found>, ShelfFault>
+) -> Result<Option<ReadIntersection>, ShelfFault>
     ensures found { Reports (S.is_honest shelf.new) result
         (Finds reach (S.content shelf.old) id) (HasDamageIn reach (S.content shelf.old) id) }
     ensures reads { OnlyReads S.Shelf ⊤ result shelf.old shelf.new }
@@ -80,7 +80,7 @@ pub(crate) fn find<S: Shelf>(
         committed,
         delta,
     };
-    Ok(Some(Found {
+    Ok(Some(ReadIntersection {
         name: row.name,
         interval: row.interval,
         timing,

@@ -17,7 +17,7 @@ use Rattle.sqlite_tied.specs.Compute.{everything}
 use Rattle.sqlite_trees.specs.declared.store.Store.{Ghosts}
 use Rattle.office_tables_statements.specs.{Schema.no_schema, Calls.command_of, Calls.statement_of}
 use Rattle.office_tables.proofs.MadeLemmas.{second_of}
-use Rattle.office_tables.specs.{Found.IsOurs, Opening.AreOurs, Opening.AreRun, declared.open.TheConstants.DROPS}
+use Rattle.office_tables.specs.{Foreign.IsOurs, Opening.AreOurs, Opening.AreRun, declared.open.TheConstants.DROPS}
 use Rattle.sqlite_ast.specs.declared.Statement.TheVariants as written
 
 -- ---- what such a text means

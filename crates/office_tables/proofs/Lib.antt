@@ -5,6 +5,6 @@ mod MadeLemmas
 mod DropLemmas
 mod RefillLemmas
 pub mod MovedLemmas
-mod FoundLemmas
+mod ForeignLemmas
 mod MigrateLemmas
 pub mod Migration

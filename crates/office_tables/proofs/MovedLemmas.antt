@@ -12,7 +12,7 @@ use Rattle.office_tables_statements.specs.{Schema.office_schema, Stored.cells_at
 use Rattle.office_tables_statements.specs.Tables.{layout_at, rows_at, schema_at, with_rows}
 use Rattle.office_tables_statements.proofs.TableLemmas.{each}
 use Rattle.office_tables.specs.Moved.{Named, all_put, content_by, content_of_named, moved_from, row_put, rows_named}
-use Rattle.office_tables.specs.{Found.HasOtherVersion, Found.HasRowsAlone, Found.Hold, declared.found.TheConstants.KEEPER, declared.gather.TheConstants.CHILDREN_FIRST}
+use Rattle.office_tables.specs.{Foreign.HasOtherVersion, Foreign.HasRowsAlone, Foreign.Hold, declared.foreign.TheConstants.KEEPER, declared.gather.TheConstants.CHILDREN_FIRST}
 use Rattle.office_tables_sql.specs.Version.{AreToday, version_of, current_version}
 
 -- ---- rows that are put into a table without rows

@@ -8,7 +8,7 @@ use Rattle.sqlite_catalog.specs.Listing.{AreListed}
 use Rattle.office_tables_shelf.specs.Content.{Content}
 use Rattle.office_tables_statements.specs.{Schema.office_schema, Calls.IsHonest, Calls.IsOffice, Calls.Keeps, Stored.content_now, Stored.content_of}
 use Rattle.office_tables.specs.{Arranged.IsArranged, Arranged.IsUnchanged, SqlShelf.SqlView, declared.open.OpenFault.OpenFault}
-use Rattle.office_tables.specs.Found.{Hold, MayBeMade, TakesOver, TellsOfTables}
+use Rattle.office_tables.specs.Foreign.{Hold, MayBeMade, TakesOver, TellsOfTables}
 use Rattle.office_tables.specs.Opening.{IsAsFound, IsCheckedAgain, IsCleanStore, IsOpenIfClean, IsPrepared, IsRefused, IsTaken, Opens as OpensShelf, Prepares, WritesToday, store_left}
 use Rattle.office_tables.proofs.{ArrangedLemmas.tables_rise, MovedLemmas.office_hold, VersionLemmas.are_today}
 use Rattle.office_tables_sql.specs.{Version.AreToday, Version.Completes, Version.version_in, Version.current_version}

@@ -1,6 +1,6 @@
 pub mod SqlShelf
 pub mod Arranged
-pub mod Found
+pub mod Foreign
 pub mod Moved
 pub mod Opening
 pub mod Rewritten

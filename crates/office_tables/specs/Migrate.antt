@@ -8,7 +8,7 @@ use Rattle.sqlite_schema.specs.Names.{table_named}
 use Rattle.office_machine.specs.Office.{Office, version_1}
 use Rattle.office_tables_decisions.specs.StandFor.{StandForSoundIn}
 use Rattle.office_tables_statements.specs.{Calls.IsHonest, Calls.StaysOpen, Stored.content_of}
-use Rattle.office_tables.specs.{Rewritten.HasFormerDamage, Migration.IsMigrated, declared.found.TheConstants.KEEPER, declared.rewritten.Migrated.Migrated, declared.rewritten.Spelled.Spelled, declared.open.OpenFault.OpenFault, declared.version.TheConstants.FIND}
+use Rattle.office_tables.specs.{Rewritten.HasFormerDamage, Migration.IsMigrated, declared.foreign.TheConstants.KEEPER, declared.rewritten.Migrated.Migrated, declared.rewritten.Spelled.Spelled, declared.open.OpenFault.OpenFault, declared.version.TheConstants.FIND}
 use Rattle.office_tables_sql.specs.Promises.{KeepsCommitted, Settles}
 use Rattle.office_tables_sql.specs.Version.{AreToday, version_in, current_version, first_version}
 use Rattle.office_tables.specs.declared.open.OpenFault.TheVariants as fault

@@ -7,8 +7,8 @@ use Rattle.sqlite_trees.specs.{View.doubt, View.IsClean, declared.store.Store.Gh
 use Rattle.office_tables_shelf.specs.{Content.Content, Content.no_content, Counts.no_writes, declared.rows.Table.Table}
 use Rattle.office_tables_statements.specs.Calls.{IsHonest, IsOffice, IsReady, StandsOn, StaysOpen}
 use Rattle.office_tables_statements.specs.Stored.{content_now, content_of}
-use Rattle.office_tables.specs.{Arranged.IsArranged, SqlShelf.IsCurrent, SqlShelf.SqlView, Moved.all_put, Moved.moved_from, Moved.rows_named, declared.found.TheConstants.KEEPER, declared.gather.TheConstants.CHILDREN_FIRST, declared.open.OpenFault.OpenFault}
-use Rattle.office_tables.specs.Found.{Hold, IsOurs, MayBeMade, TakesOver, Tell, TellsOfTables}
+use Rattle.office_tables.specs.{Arranged.IsArranged, SqlShelf.IsCurrent, SqlShelf.SqlView, Moved.all_put, Moved.moved_from, Moved.rows_named, declared.foreign.TheConstants.KEEPER, declared.gather.TheConstants.CHILDREN_FIRST, declared.open.OpenFault.OpenFault}
+use Rattle.office_tables.specs.Foreign.{Hold, IsOurs, MayBeMade, TakesOver, Tell, TellsOfTables}
 use Rattle.sqlite_schema.specs.declared.schema.Table.{Table as SqlTable}
 use Rattle.office_tables_sql.specs.{Promises.KeepsCommitted, Promises.WasHonest, Version.Completes}
 

@@ -17,7 +17,7 @@ use sqlite_value::row::Row;
 use std::alloc::Global;
 
 /// A stored row of one of the office's tables beside `office_version`, with its rowid first.
-pub(crate) type Moved = (Table, Row);
+pub(crate) type Gathered = (Table, Row);
 
 /// The office's eight tables beside `office_version`, those first that refer to others.
 pub const CHILDREN_FIRST: [Table; 8] = [
@@ -57,7 +57,7 @@ pub(crate) fn read_named<S: Store>(
 }
 
 /// Appends rows, each with its table.
-fn append(table: Table, rows: Vec<Row>, moved: &mut Vec<Moved>) -> Result<(), StoreError>
+fn append(table: Table, rows: Vec<Row>, moved: &mut Vec<Gathered>) -> Result<(), StoreError>
     ensures { OnOk result (
         moved.new.items ≡ moved.old.items ++ map (λ row. (table, row)) rows.items) }
 {
@@ -74,7 +74,7 @@ pub(crate) fn gather<S: Store>(
     store: &mut S,
     tables: &[SqlTable],
     homes: &[Table],
-    moved: &mut Vec<Moved>,
+    moved: &mut Vec<Gathered>,
 ) -> Result<(), StoreError>
     ensures rows { IsClean (S.Store.view store.new) → OnOk result (moved.new.items ≡
         moved.old.items

@@ -3,7 +3,7 @@
 //! version 1 is brought to today's.
 #![tactic(auto)]
 
-pub mod found;
+pub mod foreign;
 mod gather;
 mod migrate;
 pub mod open;

@@ -6,7 +6,7 @@ ghost use Rattle.office_tables_statements.specs.{Stored.content_now, Calls.IsOff
 ghost use Rattle.office_tables.specs.{Migrate.AreNeither, Migrate.Migrates, Migrate.ShowsNeither, Arranged.IsArrangedIfClean, Opening.TurnsToday, Opening.WritesToday};
 ghost use Rattle.office_tables_shelf.specs.Change.{changed_by};
 
-use crate::found::KEEPER;
+use crate::foreign::KEEPER;
 use crate::open::OpenFault;
 use crate::rewritten::{DRAFT, Migrated, Spelled, TIMING, put_former};
 use crate::sql_shelf::SqlShelf;

@@ -8,8 +8,8 @@ ghost use Rattle.office_tables.specs.{Moved.all_put, Arranged.IsArrangedIfClean}
 ghost use Rattle.office_tables.specs.Opening.{AreOurs, AreRun, Prepares, TurnsToday, WritesToday};
 ghost use Rattle.office_tables_sql.specs.Promises.{IsSettled};
 
-use crate::found::{has_only_ours, read_again};
-use crate::gather::Moved;
+use crate::foreign::{has_only_ours, read_again};
+use crate::gather::Gathered;
 use crate::refill::put_all;
 use crate::version::{VERSION, renew_version, stored_version};
 use office_tables_shelf::shelf::ShelfFault;
@@ -96,7 +96,7 @@ fn run_all<S: Alter>(tx: &mut Transaction<'_, S>, texts: &[&str]) -> Result<(), 
 fn make_again<S: Alter>(
     alloc: Global,
     tx: &mut Transaction<'_, S>,
-    rows: Vec<Moved>,
+    rows: Vec<Gathered>,
 ) -> Result<(), SqlFault>
     ensures { TurnsToday S.Store result (λ s. IsTrue s.in_transaction × AreOurs s.now)
         (all_put no_content rows.items) tx.old tx.new }
@@ -112,7 +112,7 @@ fn make_again<S: Alter>(
 fn make_tables<S: Alter>(
     alloc: Global,
     conn: &mut Connection<S>,
-    rows: Vec<Moved>,
+    rows: Vec<Gathered>,
 ) -> Result<(), SqlFault>
     requires autocommit { (state S.Store conn.old).in_transaction ≡ false }
     requires ours { IsHonest (state S.Store conn.old) → AreOurs (state S.Store conn.old).now }

@@ -7,7 +7,7 @@ ghost use Rattle.office_tables_statements.specs.{Calls.StandsOn, Calls.TurnsTo, 
 ghost use Rattle.office_tables_statements.specs.Stored.{are_sound, cell_of, cells_at, content_now};
 ghost use Rattle.office_tables.specs.Moved.{row_put, all_put};
 
-use crate::gather::Moved;
+use crate::gather::Gathered;
 use office_tables_shelf::rows::Table;
 use office_tables_sql::change::insert_of;
 use office_tables_statements::parts::WantedColumn;
@@ -112,7 +112,7 @@ fn put_row<S: Alter>(
 pub(crate) fn put_all<S: Alter>(
     alloc: Global,
     tx: &mut Transaction<'_, S>,
-    mut rows: Vec<Moved>,
+    mut rows: Vec<Gathered>,
 ) -> Result<(), SqlFault>
     ensures same_reference { tx.new.conn.ghost_name ≡ tx.old.conn.ghost_name }
     ensures put { TurnsTo result (all_put (content_now (state S.Store tx.old.conn.now)) rows.items)

@@ -4,7 +4,7 @@ ghost use Rattle.std.specs.Prelude.{◌≡◌, true, Ok, Err, MatchResult};
 ghost use Rattle.sqlite.specs.{Files.file_state, Held.state};
 ghost use Rattle.office_tables.specs.{Arranged.IsArrangedIfClean, SqlShelf.IsCurrent, Opening.IsOpened, Opening.IsRefused, Opening.Opens};
 
-use crate::found::{check_again, has_only_ours};
+use crate::foreign::{check_again, has_only_ours};
 use crate::open::{OpenFault, Refused, prepare};
 use cabinet_core::{Day, Hand, Inspection, Order, PartCode, UsedLine};
 use office_tables_shelf::counts::WriteCounts;

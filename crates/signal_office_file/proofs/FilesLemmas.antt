@@ -8,7 +8,7 @@ use Rattle.sqlite.specs.declared.error.Error.{Error}
 use Rattle.sqlite_disk.specs.declared.Disk.{Ghosts as Disk}
 use Rattle.sqlite_disk.specs.declared.Files.{Files}
 use Rattle.sqlite_trees.specs.Props.{Trees-set}
-use Rattle.office_tables.specs.{Content.Content, Stored.content_now, Stored.content_of, Found.Hold, SqlShelf.IsCurrent, SqlShelf.MayLeave}
+use Rattle.office_tables.specs.{Content.Content, Stored.content_now, Stored.content_of, Foreign.Hold, SqlShelf.IsCurrent, SqlShelf.MayLeave}
 use Rattle.office_tables_sql.specs.{Version.AreToday}
 use Rattle.office_tables.proofs.MovedLemmas.{hold_office}
 use Rattle.signal_office_faults.specs.declared.fault.Fault.{Fault}

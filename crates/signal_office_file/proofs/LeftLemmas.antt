@@ -6,7 +6,7 @@ use Rattle.sqlite_disk.specs.declared.Disk.{Ghosts as Disk}
 use Rattle.sqlite_disk.specs.declared.Files.{Files}
 use Rattle.sqlite_store.specs.Laws.{settled_at}
 use Rattle.sqlite_trees.specs.{Props.Trees-set, declared.store.Store.Ghosts}
-use Rattle.office_tables.specs.{Found.HasOtherVersion, Found.HasRowsAlone, Found.Hold, Found.TellsOfTables}
+use Rattle.office_tables.specs.{Foreign.HasOtherVersion, Foreign.HasRowsAlone, Foreign.Hold, Foreign.TellsOfTables}
 use Rattle.office_tables_sql.specs.{Version.AreToday}
 use Rattle.office_tables.specs.Stored.{content_of}
 use Rattle.office_tables.specs.Opening.{IsCleanStore, IsRefused, store_left}

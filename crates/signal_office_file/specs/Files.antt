@@ -10,7 +10,7 @@ use Rattle.sqlite_disk.specs.declared.Disk.{Ghosts as Disk}
 use Rattle.sqlite_disk.specs.declared.Files.{Files}
 use Rattle.office_tables.specs.Content.{Content}
 use Rattle.office_tables.specs.Stored.{content_of}
-use Rattle.office_tables.specs.Found.{Hold}
+use Rattle.office_tables.specs.Foreign.{Hold}
 use Rattle.office_tables_sql.specs.Version.{AreToday}
 
 -- the trees found are those of the office's tables with today's version, and hold the content that the given trees

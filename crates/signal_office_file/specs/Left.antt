@@ -16,7 +16,7 @@ use Rattle.sqlite_disk.specs.declared.Disk.{Ghosts as Disk}
 use Rattle.sqlite_disk.specs.declared.Files.{Files}
 use Rattle.sqlite_trees.specs.declared.error.StoreError.{StoreError}
 use Rattle.office_tables.specs.Content.{Content}
-use Rattle.office_tables.specs.Found.{Hold}
+use Rattle.office_tables.specs.Foreign.{Hold}
 use Rattle.office_tables.specs.Stored.{content_now}
 use Rattle.office_tables.specs.Opening.{IsCleanStore, IsRefused, store_left}
 use Rattle.office_tables_sql.specs.Version.{AreToday}

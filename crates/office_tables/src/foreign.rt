@@ -7,11 +7,11 @@ ghost use Rattle.sqlite_trees.specs.View.{IsClean, IsQuiet, doubt};
 ghost use Rattle.sqlite_value.specs.{Value.owned, declared.value.Value.TheVariants.Int};
 ghost use Rattle.office_tables_shelf.specs.Cells.{number};
 ghost use Rattle.office_tables.specs.Arranged.{IsUnchanged};
-ghost use Rattle.office_tables.specs.Found.{IsOurs, IsVersionKeeper, KeepVersion, Tell};
+ghost use Rattle.office_tables.specs.Foreign.{IsOurs, IsVersionKeeper, KeepVersion, Tell};
 ghost use Rattle.office_tables.specs.Opening.{ChecksAgain, FindsTables, FindsIn, IsAsFound, IsCheckedAgain, IsTaken};
 ghost use Rattle.office_tables_sql.specs.{Promises.IsSettled, Version.version_of};
 
-use crate::gather::{CHILDREN_FIRST, Moved, gather, read_named};
+use crate::gather::{CHILDREN_FIRST, Gathered, gather, read_named};
 use crate::open::OpenFault;
 use crate::version::VERSION;
 use office_tables_statements::schema::{are_of_office, is_name};
@@ -108,7 +108,7 @@ fn stored_number(rows: &[Row]) -> Option<i64>
 /// other tables: `Damaged` where the eight have a row and there is no version, `Version` where
 /// another version than today's is stored, `Store` where `office_version` has other columns or
 /// stores no number, or the tables are not the office's. None where they may be made.
-fn refusal(tables: &[Table], version: &[Row], eight: &[Moved]) -> Option<OpenFault>
+fn refusal(tables: &[Table], version: &[Row], eight: &[Gathered]) -> Option<OpenFault>
     ensures { Tell result tables.now version.now eight.now }
 {
     if version.is_empty() {
@@ -133,11 +133,11 @@ fn refusal(tables: &[Table], version: &[Row], eight: &[Moved]) -> Option<OpenFau
 }
 
 /// The rows of tables that may be made anew, or why they are not.
-pub(crate) type Found = Result<Vec<Moved>, OpenFault>;
+pub(crate) type Looked = Result<Vec<Gathered>, OpenFault>;
 
 /// Reads the rows of `office_version` and of the office's eight other tables: gives those of the
 /// eight, if they may be made anew, or why not. The error is the store's, or want of memory.
-fn look<S: Store>(alloc: Global, store: &mut S, tables: &[Table]) -> Result<Found, StoreError>
+fn look<S: Store>(alloc: Global, store: &mut S, tables: &[Table]) -> Result<Looked, StoreError>
     ensures finds { IsClean (S.Store.view store.new) →
         IfOk result (FindsIn tables.now (S.Store.view store.old).trees) }
     ensures same { IsClean (S.Store.view store.new) →
@@ -208,7 +208,7 @@ fn fault_of(error: StoreError) -> SqlFault {
 pub(crate) fn read_again<S: Alter + Drop>(
     alloc: Global,
     conn: Connection<S>,
-) -> Result<(Found, Connection<S>), (SqlFault, S)>
+) -> Result<(Looked, Connection<S>), (SqlFault, S)>
     requires { IsSettled (state S.Store conn) }
     ensures again { MatchResult result (λ f. IsCheckedAgain S.Store conn f.1)
         (λ e. IsAsFound S.Store conn e.1) }

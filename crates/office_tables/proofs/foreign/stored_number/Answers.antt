@@ -1,8 +1,8 @@
 use Rattle.std.proofs.Common.{◌≡◌, ◌∷◌, ◌+◌, drop, sym, ap, ◌∙◌}
 use Rattle.std.proofs.lemmas.{Option.IfSome_then, Bool.both_ways, List.drop_more}
 use Rattle.office_tables_sql.specs.Version.{version_of}
-use Rattle.office_tables.proofs.FoundLemmas.{version_first, version_later}
-use Rattle.office_tables.proofs.found.stored_number.Goals as goal
+use Rattle.office_tables.proofs.ForeignLemmas.{version_first, version_later}
+use Rattle.office_tables.proofs.foreign.stored_number.Goals as goal
 
 pub returns-then-is_one : goal.returns-then-is_one
 returns-then-is_one c =

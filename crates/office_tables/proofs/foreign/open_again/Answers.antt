@@ -1,5 +1,5 @@
 use Rattle.office_tables.proofs.OpenLemmas.{again, still_found}
-use Rattle.office_tables.proofs.found.open_again.Goals as goal
+use Rattle.office_tables.proofs.foreign.open_again.Goals as goal
 
 pub returns-in-Ok-clause-again : goal.returns-in-Ok-clause-again
 returns-in-Ok-clause-again g c conn taken =

@@ -1,5 +1,5 @@
 use Rattle.std.proofs.Common.{length}
-use Rattle.office_tables.proofs.found.+are_named.Given as goal
+use Rattle.office_tables.proofs.foreign.+are_named.Given as goal
 
 abbrev pub decreases-are_named : goal.decreases-are_named
 decreases-are_named l = length l.columns.now

@@ -3,7 +3,7 @@ use Rattle.std.proofs.lemmas.Bool.{true_from_ne_false, both_ways}
 use Rattle.sqlite.specs.View.{IsClean}
 use Rattle.office_tables.specs.Arranged.{IsArranged}
 use Rattle.office_tables.proofs.{ArrangedLemmas.stored_arranged}
-use Rattle.office_tables.proofs.found.store_of.Goals as goal
+use Rattle.office_tables.proofs.foreign.store_of.Goals as goal
 
 pub returns-clause-taken : goal.returns-clause-taken
 returns-clause-taken g c =

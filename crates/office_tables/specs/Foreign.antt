@@ -7,7 +7,7 @@ use Rattle.sqlite_schema.specs.{Names.same_name, declared.schema.Column.Column, 
 use Rattle.sqlite_trees.specs.Objects.{catalog_tree}
 use Rattle.office_tables_statements.specs.{Schema.IsNameAmong, Schema.IsOffices, Schema.office_schema, Stored.content_of}
 use Rattle.office_tables_shelf.specs.{Cells.number, Content.Content, declared.rows.Table.Table}
-use Rattle.office_tables.specs.{Moved.content_by, Moved.moved_from, Moved.rows_named, declared.open.OpenFault.OpenFault, declared.found.TheConstants.KEEPER, declared.found.TheConstants.COLUMNS, declared.gather.TheConstants.CHILDREN_FIRST}
+use Rattle.office_tables.specs.{Moved.content_by, Moved.moved_from, Moved.rows_named, declared.open.OpenFault.OpenFault, declared.foreign.TheConstants.KEEPER, declared.foreign.TheConstants.COLUMNS, declared.gather.TheConstants.CHILDREN_FIRST}
 use Rattle.office_tables_sql.specs.Version.{AreToday, version_in, version_of, current_version}
 use Rattle.office_tables.specs.declared.open.OpenFault.TheVariants as fault
 
