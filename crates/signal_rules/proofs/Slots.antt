@@ -6,7 +6,7 @@ use Rattle.std.proofs.lemmas.List.Folds.{list_all-append, list_all-map}
 use Rattle.std.specs.{Prelude.cond, List.list_all}
 use Rattle.signal_records.specs.{declared.record.Pattern.Pattern, TimingSet.Rows}
 use Rattle.signal_values.specs.Numbers.{numbers}
-use Rattle.signal_rules.specs.{SequenceRule.ring_row, CutPoints.start_of, CutPoints.starts, CutPoints.phase_in, CutPoints.list_of_option, CutPoints.phases_in, Starts.times, Starts.agree_at, Counts.RisesAtMost, Counts.entries_of, Counts.sequence_entries, Slots.Span, Slots.Listing, Cases.holds}
+use Rattle.signal_rules.specs.{SequenceRule.ring_row, CutPoints.start_of, CutPoints.starts, CutPoints.phase_in, CutPoints.list_of_option, CutPoints.phases_in, Starts.times, Starts.agree_at, Counts.RisesAtMost, Counts.entries_of, Counts.sequence_entries, Slots.Span, Slots.PhaseMates, Cases.holds}
 use Rattle.signal_rules.specs.Lanes.{lanes, used_rings, all_list_each_other, phases_at}
 use Rattle.signal_rules.specs.PatternRules.{lanes_fill_cycle, lanes_agree}
 use Rattle.signal_rules.specs.Slots.{listing_at, spans_at, spans_from, spans_of, spans_in, has_second, are_mates, later_cases, pair_cases, conflicts_in, agree_where_begun}
@@ -15,11 +15,11 @@ use Rattle.signal_rules.specs.declared.reason.PatternReason.TheVariants.{Conflic
 use Rattle.signal_rules.proofs.{Cases.holds-append, Cases.holds-flat_map, Cases.holds-map, Starts.used_rises, Starts.agree_by_starts, Starts.agree_in_lanes, Steps.rises_within}
 
 -- the phases that have a second
-abbrev listings_in : ℕ → List Span → List Listing
+abbrev listings_in : ℕ → List Span → List PhaseMates
 listings_in second spans = map (λ (s : Span). s.listing) (spans_in second spans)
 
 -- any two of some phases list each other
-abbrev all_are_mates : List Listing → Bool
+abbrev all_are_mates : List PhaseMates → Bool
 all_are_mates [] = true
 all_are_mates (p ∷ ps) = list_all (are_mates p) ps && all_are_mates ps
 

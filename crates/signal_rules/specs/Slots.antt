@@ -14,7 +14,7 @@ use Rattle.signal_rules.specs.declared.reason.Reason.TheVariants as reason
 use Rattle.signal_rules.specs.declared.reason.PatternReason.TheVariants.{Conflict}
 
 -- a phase, with its phaseConcurrency
-pub record Listing : Type 0 where
+pub record PhaseMates : Type 0 where
   pub phase : ℕ
   pub mates : List ℕ
 
@@ -22,10 +22,10 @@ pub record Listing : Type 0 where
 pub record Span : Type 0 where
   pub from : ℕ
   pub until : ℕ
-  pub listing : Listing
+  pub listing : PhaseMates
 
 -- a phase of the set, with its phaseConcurrency
-abbrev pub listing_at : Rows → ℕ → Listing
+abbrev pub listing_at : Rows → ℕ → PhaseMates
 listing_at set p = record { phase = p; mates = the_mates (phase_at set p) }
 
 -- the span of a phase that starts at a second and lasts a time, in seconds; a phase with no time has none
@@ -50,7 +50,7 @@ abbrev pub has_second : ℕ → Span → Bool
 has_second second span = nat_le span.from second && nat_lt second span.until
 
 -- two phases list each other
-abbrev pub are_mates : Listing → Listing → Bool
+abbrev pub are_mates : PhaseMates → PhaseMates → Bool
 are_mates p q = is_in q.phase p.mates && is_in p.phase q.mates
 
 -- the spans that cover a second
