@@ -1,6 +1,6 @@
 -- What a decision on the register rests on: that the intersection is there.
 use Rattle.std.specs.Prelude.{◌≡◌, ℕ, Bool, true, Option, Some, None, IsSomeAnd, is_some}
-use Rattle.std.specs.{BTreeSet.BTreeSet, FinMap.get, List.All, List.Contains}
+use Rattle.std.specs.{BTreeSet.BTreeSet, FinMap.get, List.All}
 use Rattle.office_tables_shelf.specs.{Content.Content, Damage.HasDamagedIntersection, Rows.intersection_key}
 use Rattle.office_machine.specs.{Office.Office, Step.is_known}
 use Rattle.office_tables_decisions.specs.StandFor.{StandForSound}
@@ -28,7 +28,3 @@ pub record TellsIntersection (tables : Content) (about : Option ℕ) (is_there :
 -- each of these intersections is there
 abbrev pub AreFound : Content → BTreeSet ℕ → Type 0
 AreFound tables found = All (λ id. TellsIntersection tables (Some id) true) found.keys
-
--- an intersection is asked for, and it is one of these
-abbrev pub IsAmong : BTreeSet ℕ → Option ℕ → Type 0
-IsAmong found about = IsSomeAnd about (Contains found.keys)

@@ -115,12 +115,3 @@ pub draft_keys_rise : (tables : Content) (id : ℕ) (changes : List Change) → 
 draft_keys_rise tables id changes lists = listed_rise changed_key draft_columns id tables.draft changes lists
 
 -- ---- keys
-
--- the cells of a key tell the intersection and the key
-pub timing_key_tells : (id other : ℕ) (key k : Key) → timing_key id key ≡ timing_key other k → (id ≡ other) × (key ≡ k)
-timing_key_tells id other key k same =
-    let of : id ≡ other = cc in
-    let kind : kind_of key ≡ kind_of k = cc in
-    let first : first_of key ≡ first_of k = cc in
-    let second : second_of key ≡ second_of k = cc in
-    (of, sym (key_at-place_of key) ∙ (λ i. key_at (kind i) (first i) (second i)) ∙ key_at-place_of k)

@@ -166,6 +166,3 @@ same_left limits (Some a) (Some b) are in_a in_b same =
 -- in today's version
 pub timing_columns_tell : (a b : Row) → IsRowWithin current_limits a → IsRowWithin current_limits b → timing_columns a ≡ timing_columns b → a ≡ b
 timing_columns_tell a b in_a in_b same = let bodies : body_of a ≡ body_of b = cc in same_row current_limits a b are_current in_a in_b bodies
-
-pub left_columns_tell : (a b : Option Row) → IfSome a (IsRowWithin current_limits) → IfSome b (IsRowWithin current_limits) → left_columns a ≡ left_columns b → a ≡ b
-left_columns_tell a b = same_left current_limits a b are_current

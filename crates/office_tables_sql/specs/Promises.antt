@@ -31,10 +31,6 @@ pub record HoldUnder (tables : Content) (old trees : Trees) : Type 0 where
   pub content : content_of trees ≡ tables
   pub version : version_in trees ≡ version_in old
 
--- a call that fails leaves all that can be read as it was, if the database is open after it
-abbrev pub KeepsTrees : {A E : Type 0} → Result A E → State → State → Type 0
-KeepsTrees result old new = IsHonest new → OnErr result (new.now.trees ≡ old.now.trees)
-
 -- a call that fails leaves the last commit as it was, if the database is open after it
 abbrev pub KeepsCommitted : {A E : Type 0} → Result A E → State → State → Type 0
 KeepsCommitted result old new = IsHonest new → OnErr result (new.committed.trees ≡ old.committed.trees)

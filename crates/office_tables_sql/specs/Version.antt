@@ -14,10 +14,6 @@ version_of rows = get (rows_in layout.office_version rows) (number (pos 1) ∷ [
 abbrev pub version_in : Trees → Option (List Cell)
 version_in trees = version_of (trees layout.office_version.tree)
 
--- the cells in which a version is stored: its number
-abbrev pub version_cells : ℕ → List Cell
-version_cells version = number (pos version) ∷ []
-
 -- the cells of version 2, which is today's: in its rows of plans, the pedestrian part of a phase has a lead
 abbrev pub current_version : List Cell
 current_version = number (pos 2) ∷ []

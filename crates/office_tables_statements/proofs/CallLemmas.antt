@@ -252,13 +252,6 @@ module _ (sql : List ℕ) (params : Row) (old mid new : State) (inside : old.in_
     | inr late ↦ undisturbed_kept old mid (inl late.5)
   ]) undone
 
--- what was gathered is of the records that the rows given so far show
-abbrev pub HasGathered : {X G : Type 0} → (G → List X → Type 0) → Table → (X → Type 0)
-    → (key columns : X → List Cell) → List Row → G → Type 0
-HasGathered {X} holds t within key columns given found =
-    (records : List X) × holds found records × AllByRecursion within records
-    × (map (stored_for key columns) records ≡ map (row_shown t) given)
-
 pub one_more : {X Y Z : Type 0} (f : X → Z) (h : Y → Z) (xs : List X) (ys : List Y) (x : X) (y : Y) → map f xs ≡ map h ys → f x ≡ h y → map f (xs ++ x ∷ []) ≡ map h (ys ++ y ∷ [])
 one_more f h xs ys x y same one = map-append f xs (x ∷ []) ∙ (λ i. same i ++ one i ∷ []) ∙ sym (map-append h ys (y ∷ []))
 

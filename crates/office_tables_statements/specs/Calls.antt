@@ -16,10 +16,6 @@ use Rattle.office_tables_statements.specs.Layout as layout
 abbrev pub IsHonest : State → Type 0
 IsHonest s = HasCleanDisk s × IsTrue s.is_open
 
--- no disk fails under any connection, as over memory
-abbrev pub IsAlwaysHonest : {S : Type 0} → Ghosts S → Type 0
-IsAlwaysHonest {S} g = (h : Held S) → IsHonest (state g h)
-
 -- each of the office's tables has its rows in the order of their rowids
 abbrev pub AreOrdered : Trees → Type 0
 AreOrdered trees = AllByRecursion (λ t. IsShaped shape.Table (trees t.tree)) office_schema.tables

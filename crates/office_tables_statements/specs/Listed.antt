@@ -7,7 +7,3 @@ use Rattle.office_tables_statements.specs.Stored.{cells_at}
 -- the key cells of a shown row: intersection, kind, and the two numbers of the key
 abbrev pub shown_key : Row → List Cell
 shown_key = cells_at (0 ∷ 1 ∷ 2 ∷ 3 ∷ [])
-
--- the cell of the body of a shown row, which is null in a draft row that removes
-abbrev pub shown_body : Row → List Cell
-shown_body = cells_at (4 ∷ [])

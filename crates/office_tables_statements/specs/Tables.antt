@@ -185,10 +185,6 @@ IsRemoveText t sql = Means sql (Delete (place_at t) (record { lets = []; body = 
 abbrev pub IsDropText : Table → List ℕ → Type 0
 IsDropText t sql = Means sql (Delete (place_at t) (record { lets = []; body = picked_where (layout_at t) (of_first t) (col 1 0 ∷ []) }))
 
--- a key of a timing or draft row, with its intersection, as the parameters of a statement
-abbrev pub key_values : ℕ → Key → Row
-key_values id key = Int (pos id) ∷ Int (pos (kind_of key)) ∷ Int (pos (first_of key)) ∷ Int (pos (second_of key)) ∷ []
-
 -- ---- what is bound for cells
 
 -- a cell as a value of SQL; an odd one, which no statement binds, as NULL
