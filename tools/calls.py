@@ -26,7 +26,6 @@ MAIN, WIDTH = "signal_office_main", 34
 CALL = re.compile(r"( *)(pub )?(?:pub\([^)]*\) )?(?:const )?fn (\w+)")
 CLAUSE = re.compile(r" *(ensures|requires)(?: (\w+))? (\{.*)")
 OWN = sources.crates()[0]
-USED = re.compile(r"ghost use Rattle\.(\w+)\.specs\.(\w+)\.\{([^}]*)\}")
 
 
 @dataclasses.dataclass
@@ -94,10 +93,9 @@ def calls_in(text, all_of_them=False):
 def definitions_of(text, crate):
     """For each name that a file takes from definitions, the file where it is defined."""
     found = {}
-    for of, file, names in USED.findall(text):
-        for name in filter(None, map(str.strip, names.split(","))):
-            place = file if of == crate else f"{of}/{file}"
-            found[name.split(" as ")[-1]] = place if of in OWN else None
+    for of, file, name in sources.cited(text):
+        place = file if of == crate else f"{of}/{file}"
+        found[name] = place if of in OWN else None
     return {name: place for name, place in found.items() if place}
 
 

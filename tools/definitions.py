@@ -21,18 +21,17 @@ import sys
 import textwrap
 
 sys.path.insert(0, str(pathlib.Path(__file__).resolve().parents[1] / "tests" / "lib"))
-from sources import CRATES, files, first_comment, without_comment
+from sources import CRATES, cited, files, first_comment, without_comment
 
 COLUMNS = 100
 DEFINED = re.compile(r"\bpub (?!use|mod)(\w+)")
-CITED = re.compile(r"Rattle\.(\w+)\.specs\.(\w+)\.\{")
 
 
 def citing():
     """For each file of definitions, by crate and name, the files of code that cite it."""
     found = {}
     for path in sorted(CRATES.glob("*/src/**/*.rt")):
-        for place in set(CITED.findall(path.read_text())):
+        for place in {it[:2] for it in cited(path.read_text())}:
             found.setdefault(place, []).append(str(path.relative_to(CRATES)))
     return found
 

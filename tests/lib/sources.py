@@ -1,10 +1,12 @@
 """The crates of this repository as crates.txt lists them, and their files of definitions."""
 import pathlib
+import re
 
 TOP = pathlib.Path(__file__).resolve().parents[2]
 CRATES = TOP / "crates"
 # Crates of tests alone; `office_lives` has laws.
 TESTS = {"signal_core_tests", "office_calls", "office_trials"}
+CITED = re.compile(r"\bRattle\.(\w+)\.specs\.?([\w.]*?)\.?\{([^}]*)\}")
 
 
 def lines():
@@ -46,3 +48,14 @@ def without_comment():
     """The files of definitions that say nothing of what they define."""
     return [f"{crate}/specs/{path.stem}" for crate, path in files()
             if not first_comment(path.read_text())]
+
+
+def cited(text):
+    """What a text takes from definitions: the crate, the file and the name that the text gives each.
+    An import names one file, or several, each before a dot."""
+    for crate, head, names in CITED.findall(text):
+        for name in filter(None, map(str.strip, names.split(","))):
+            path, _, alias = name.partition(" as ")
+            file, *below = [*filter(None, head.split(".")), *path.split(".")]
+            if len(below) == 1:
+                yield crate, file, alias or below[0]
