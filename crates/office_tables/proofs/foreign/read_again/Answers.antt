@@ -3,7 +3,7 @@ use Rattle.sqlite.specs.{Effect.Database, Held.state, View.IsClean}
 use Rattle.sqlite_catalog.specs.Listing.{AreListed}
 use Rattle.sqlite_trees.specs.Objects.{catalog_tree}
 use Rattle.office_tables.specs.Opening.{FindsIn, IsTaken}
-use Rattle.office_tables.proofs.{ForeignLemmas.finds, OpenLemmas.still_found, OpenLemmas.still_taken, found.read_again.Given.Over, found.read_again.Goals.In-Ok-look}
+use Rattle.office_tables.proofs.{ForeignLemmas.finds, OpenLemmas.still_found, OpenLemmas.still_taken, foreign.read_again.Given.Over, foreign.read_again.Goals.In-Ok-look}
 use Rattle.office_tables.proofs.foreign.read_again.Goals as goal
 
 taken : (g : Over) (c : In-Ok-look g) → IsTaken g.S.Store c.args.conn c.look.new.store
