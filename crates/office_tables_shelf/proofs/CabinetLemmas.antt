@@ -1,7 +1,7 @@
 -- Cells of keys: texts compare by their bytes, parts by their codes, and a first number tells the intersection.
-use Rattle.std.proofs.Common.{◌≡◌, ℕ, pos, ◌==◌, eqb, List, ◌∷◌, Ordering, nat_cmp, refl, ap, ◌∙◌, arith}
+use Rattle.std.proofs.Common.{◌≡◌, ℕ, pos, ◌==◌, List, ◌∷◌, Ordering, nat_cmp, refl, ◌∙◌, arith}
 use Rattle.std.proofs.lemmas.Bool.Decides.{nat_tests}
-use Rattle.std.specs.{Cmp.Lexicographic.slice_cmp, Ordering.is_eq, Ordering.ordering_then, declared.cmp.Ordering.TheVariants.Equal}
+use Rattle.std.specs.{Cmp.Lexicographic.slice_cmp, Ordering.ordering_then, declared.cmp.Ordering.TheVariants.Equal}
 use Rattle.office_tables_shelf.specs.{Cells.Cell, Cells.number, Cells.text, Cells.cell_cmp, Cells.cells_cmp, CabinetRows.part_key, Shelf.is_of}
 use Rattle.office_tables_shelf.proofs.TreeLemmas.{then_last, number_order}
 
@@ -17,7 +17,4 @@ pub part_order : (a b : List ℕ) → cells_cmp (part_key a) (part_key b) ≡ pa
 part_order a b = (λ i. ordering_then (text_order a b i) Equal) ∙ then_last (part_cmp a b)
 
 pub of_number : (id n : ℕ) (cells : List Cell) → is_of id (number (pos n) ∷ cells) ≡ (n == id)
-of_number id n cells = ap is_eq (number_order id n) ∙ same id n
-  where
-    same : (m k : ℕ) → is_eq (nat_cmp m k) ≡ eqb k m
-    same m k = grind (arith, nat_tests)
+of_number id n cells = let order = number_order id n in grind (arith, nat_tests, order)

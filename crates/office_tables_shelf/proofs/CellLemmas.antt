@@ -1,8 +1,8 @@
 -- The order of cells is total and exact, and what stands under a key is the first of a list.
-use Rattle.std.proofs.Common.{◌≡◌, Bool, true, false, List, [], ◌∷◌, map, find, cond, Option, Some, option_map, int_cmp, nat_cmp, refl, sym, ap, ◌∙◌, true≢false}
+use Rattle.std.proofs.Common.{◌≡◌, Bool, true, List, [], ◌∷◌, map, find, cond, Option, Some, option_map, int_cmp, nat_cmp, refl, sym, ap, ◌∙◌, arith}
 use Rattle.std.proofs.lemmas.Cmp.{on_total, then_total, nat_cmp_total, nat_list_cmp_total, lists_total}
 use Rattle.std.proofs.lemmas.Map.Lookups.{exact_pairs, exact_unsigned, exact_signed, exact_bytes}
-use Rattle.std.specs.{Cmp.IsTotalOrder, Cmp.int_cmp_total, Cmp.Lexicographic.slice_cmp, FinMap.IsAntisymmetric, FinMap.slice_cmp-IsAntisymmetric, FinMap.get, FinMap.get-from_entries, Ordering.is_eq, Ordering.ordering_then, declared.cmp.Ordering.Ordering, declared.cmp.Ordering.TheVariants.Less, declared.cmp.Ordering.TheVariants.Equal, declared.cmp.Ordering.TheVariants.Greater}
+use Rattle.std.specs.{Cmp.IsTotalOrder, Cmp.int_cmp_total, Cmp.Lexicographic.slice_cmp, FinMap.IsAntisymmetric, FinMap.slice_cmp-IsAntisymmetric, FinMap.get, FinMap.get-from_entries, Ordering.is_eq, Ordering.ordering_then, declared.cmp.Ordering.Ordering, declared.cmp.Ordering.TheVariants.Equal}
 use Rattle.office_tables_shelf.specs.Cells.{Cell, rows_by, class, whole, bytes, cell_cmp, cells_cmp, to_parts, from_parts, from_parts-to_parts}
 use Rattle.std.specs.FinMap as finite
 
@@ -27,8 +27,10 @@ cells_exact = slice_cmp-IsAntisymmetric cell_exact
 -- ---- what stands under a key
 
 pub mapped : {X Y : Type 0} (f : X → Y) (b : Bool) (o p : Option X) → option_map f (cond b o p) ≡ cond b (option_map f o) (option_map f p)
-mapped f true o p = refl
-mapped f false o p = refl
+mapped f b o p = grind arith
+
+pub held : {X : Type 0} (columns : X → List Cell) (there : Option X) (cells : List Cell) → Some cells ≡ option_map columns there → (x : X) × (there ≡ Some x) × (cells ≡ columns x)
+held columns there cells same = grind arith
 
 module _ {X : Type 0} (key columns : X → List Cell) where
   -- the first of a list at a key, and its other cells
@@ -48,6 +50,4 @@ module _ {X : Type 0} (key columns : X → List Cell) where
 -- ---- ties
 
 pub tied : (o : Ordering) → is_eq o ≡ true → o ≡ Equal
-tied Less h = absurd (true≢false (sym h))
-tied Equal h = refl
-tied Greater h = absurd (true≢false (sym h))
+tied o h = grind arith

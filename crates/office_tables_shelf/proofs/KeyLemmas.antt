@@ -1,6 +1,5 @@
 -- What stands at a key, told from the list of the rows of an intersection.
-use Rattle.std.proofs.Common.{◌≡◌, inl, inr, ℕ, pos, true, false, List, [], ◌∷◌, map, find, cond, Option, None, Some, option_map, T, refl, sym, ap, subst, ◌∙◌}
-use Rattle.std.proofs.lemmas.Bool.{cases_Bool}
+use Rattle.std.proofs.Common.{◌≡◌, ℕ, pos, true, false, List, [], ◌∷◌, map, find, cond, Option, None, Some, option_map, T, refl, sym, ap, subst, ◌∙◌, arith}
 use Rattle.std.specs.{Option.option_or, Cmp.tied_itself, FinMap.get, FinMap.empty, FinMap.entries, FinMap.entries_sorted, FinMap.get-empty, FinMap.get-entries, FinMap.get-insert, FinMap.Entries.is_sorted, FinMap.Entries.below_all, FinMap.Entries.is_sorted-where_key, FinMap.Entries.find-where_key, List.AllByRecursion, List.Sorted.IsStrictlySortedBy, Ordering.is_eq, Ordering.eq_by_cmp, declared.cmp.Ordering.TheVariants.Less, declared.cmp.Ordering.TheVariants.Equal}
 use Rattle.signal_records.specs.{Key.kind_of, Key.first_of, Key.second_of, Key.key_cmp, KeyOrder.key_at, KeyOrder.key_at-place_of, KeyOrder.key_total, KeyOrder.key_exact, Row.key_of, declared.key.Key.Key, declared.record.Row.Row, declared.record.Change.Change, declared.record.Change.TheVariants.Put, ChangedRows.changed_key}
 use Rattle.office_tables_shelf.specs.{Cells.Cell, Cells.TableRows, Cells.number, Cells.cells_cmp, Content.Content, Rows.timing_key, Rows.timing_columns, Rows.draft_columns, Shelf.is_of, Shelf.rows_of, Shelf.ListsTiming, Shelf.ListsDraft}
@@ -75,10 +74,9 @@ puts rows = map Put rows
 
 at_put : (set_before : set.Rows) (row : Row) (rows : List Row) (key : Key) → AllByRecursion (λ k. key_cmp (key_of row) k ≡ Less) (map key_of rows)
     → option_or (row_in rows key) (cond (eq_by_cmp key_cmp key (key_of row)) (Some row) (get set_before key)) ≡ option_or (row_in (row ∷ rows) key) (get set_before key)
-at_put before row rows key above = elim (cases_Bool (eq_by_cmp key_cmp key (key_of row))) [
-  | inl hit ↦ rw (hit, none_above key_of timing_columns 0 row rows key above (tied _ hit))
-  | inr miss ↦ rw miss
-]
+at_put before row rows key above =
+    let none = λ (hit : eq_by_cmp key_cmp key (key_of row) ≡ true). none_above key_of timing_columns 0 row rows key above (tied _ hit) in
+    grind (arith, none)
 
 after_puts : (before : set.Rows) (rows : List Row) (key : Key) → IsStrictlySortedBy key_cmp (map key_of rows) → get (set.after_changes before (puts rows)) key ≡ option_or (row_in rows key) (get before key)
 unfolding IsStrictlySortedBy
@@ -89,25 +87,17 @@ after_puts before (row ∷ rows) key rise =
     ∙ at_put before row rows key rise.0
 
 or_none : {A : Type 0} (o : Option A) → option_or o None ≡ o
-or_none None = refl
-or_none (Some x) = refl
+or_none o = grind arith
 
 -- the set made of rows with rising keys has at a key the row of that key
 pub get_set_of_rows : (rows : List Row) → IsStrictlySortedBy key_cmp (map key_of rows) → (key : Key) → get (set.after_changes empty (puts rows)) key ≡ row_in rows key
 get_set_of_rows rows rise key = after_puts empty rows key rise ∙ ap (option_or (row_in rows key)) (get-empty key_cmp key) ∙ or_none (row_in rows key)
 
-pub timing_keys_rise : (tables : Content) (id : ℕ) (rows : List Row) → ListsTiming tables id rows → IsStrictlySortedBy key_cmp (map key_of rows)
-timing_keys_rise tables id rows lists = listed_rise key_of timing_columns id tables.timing rows lists
-
--- the table of committed rows has at a key what the list has
-pub get_listed_timing : (tables : Content) (id : ℕ) (rows : List Row) → ListsTiming tables id rows → (key : Key) → get tables.timing (timing_key id key) ≡ option_map timing_columns (row_in rows key)
-get_listed_timing tables id rows lists key = get_listed key_of timing_columns id tables.timing rows lists key
-
--- and what the set made of the list has
+-- the table of committed rows has at a key what the set made of the list has
 pub get_timing : (tables : Content) (id : ℕ) (rows : List Row) → ListsTiming tables id rows → (key : Key) → get tables.timing (timing_key id key) ≡ option_map timing_columns (get (set.after_changes empty (puts rows)) key)
 get_timing tables id rows lists key =
-    get_listed_timing tables id rows lists key
-    ∙ ap (option_map timing_columns) (sym (get_set_of_rows rows (timing_keys_rise tables id rows lists) key))
+    get_listed key_of timing_columns id tables.timing rows lists key
+    ∙ ap (option_map timing_columns) (sym (get_set_of_rows rows (listed_rise key_of timing_columns id tables.timing rows lists) key))
 
 -- ---- the draft
 

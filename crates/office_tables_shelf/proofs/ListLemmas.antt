@@ -1,10 +1,10 @@
 -- A list in key order of the rows that pass a test of their keys is the list of the map's entries that pass it.
-use Rattle.std.proofs.Common.{◌≡◌, ◌⊎◌, inl, inr, ℕ, ◌+◌, suc, Bool, true, false, ◌&&◌, List, [], ◌∷◌, map, filter, find, cond, Option, None, Some, option_map, Ordering, Less, Equal, Greater, T, refl, sym, ap, subst, subst₂, ◌∙◌, arith, true≢false, slice_index_or, ◌++◌}
-use Rattle.std.proofs.{lemmas.Bool.cases_Bool, lemmas.List.Elements.All-head, lemmas.List.Elements.All-tail, lemmas.List.Elements.All-from_recursion, lemmas.List.Sorted.IsPermutation-sym, lemmas.List.Sorted.All-permutation}
+use Rattle.std.proofs.Common.{◌≡◌, ◌⊎◌, inl, inr, ℕ, ◌+◌, suc, Bool, true, false, ◌&&◌, List, [], ◌∷◌, map, filter, find, cond, Option, None, Some, option_map, Ordering, Less, Equal, T, refl, sym, ap, subst, subst₂, ◌∙◌, arith, slice_index_or, ◌++◌}
+use Rattle.std.proofs.{lemmas.List.Elements.All-head, lemmas.List.Elements.All-tail, lemmas.List.Elements.All-from_recursion, lemmas.List.Sorted.IsPermutation-sym, lemmas.List.Sorted.All-permutation}
 use Rattle.std.specs.{Cmp.alike_right, Cmp.eq_by_cmp_equiv, Cmp.tied_itself, FinMap.get, FinMap.entries, FinMap.entries_sorted, List.All, List.AllByRecursion, List.IsDistinct, List.Sorted.IsPermutation, List.Sorted.IsSorted, Ordering.is_eq}
 use Rattle.std.specs.FinMap.{get-entries, from_entries, from_sorted, entries-from_sorted, get-from_sorted, get-from_entries, same_map}
 use Rattle.std.specs.FinMap.Entries.{is_sorted, below_all, where_key, is_sorted-where_key, find-where_key, same_entries}
-use Rattle.std.specs.Ordering.{is_lt, is_gt, ordering_reverse, eq_by_cmp}
+use Rattle.std.specs.Ordering.{is_lt, ordering_reverse, eq_by_cmp}
 use Rattle.office_tables_shelf.specs.Cells.{Cell, TableRows, rows_by, cells_cmp}
 use Rattle.office_tables_shelf.proofs.CellLemmas.{cells_total, cells_exact, is_under, find_entry, get_by, tied}
 use Rattle.std.specs.FinMap as finite
@@ -45,34 +45,19 @@ where_all [] = refl
 where_all (e ∷ es) = ap (λ xs. e ∷ xs) (where_all es)
 
 pub parts : (a b : Bool) → T (a && b) → T a × T b
-parts true b h = (tt, h)
-parts false b h = absurd h
+parts a b h = grind arith
 
 pub less : (o : Ordering) → T (is_lt o) → o ≡ Less
-less Less h = refl
-less Equal h = absurd h
-less Greater h = absurd h
+less o h = grind arith
 
 module _ {X : Type 0} (p : X → Bool) where
   pub found_has : (xs : List X) (x : X) → find p xs ≡ Some x → IsIn xs x × (p x ≡ true)
   found_has [] x h = absurd (let e = h in cc)
-  found_has (y ∷ xs) x h = elim (cases_Bool (p y)) [
-    | inl hit ↦
-        let is : Some y ≡ Some x = rw hit at h in
-        let same : y ≡ x = cc in
-        (inl (sym same), subst (λ z. p z ≡ true) same hit)
-    | inr miss ↦ let there = found_has xs x (rw miss at h) in (inr there.0, there.1)
-  ]
+  found_has (y ∷ xs) x h = let more = found_has xs x in grind (arith, more)
 
   none_has : (xs : List X) (x : X) → find p xs ≡ None → IsIn xs x → p x ≡ false
   none_has [] x h there = absurd there
-  none_has (y ∷ xs) x h there = elim (cases_Bool (p y)) [
-    | inl hit ↦ absurd (let is : Some y ≡ None = rw hit at h in cc)
-    | inr miss ↦ elim there [
-      | inl same ↦ ap p same ∙ miss
-      | inr more ↦ none_has xs x (rw miss at h) more
-    ]
-  ]
+  none_has (y ∷ xs) x h there = let more = none_has xs x in grind (arith, more)
 
   pub no_find : (xs : List X) → ((x : X) → IsIn xs x → p x ≡ false) → find p xs ≡ None
   no_find [] none = refl
@@ -90,9 +75,7 @@ module _ {X : Type 0} (key columns : X → List Cell) where
   -- in a list in order, a row is the first under its own key
   pub sorted_found : (ys : List X) (x : X) (q : List Cell) → T (is_sorted cells_cmp (map entry ys)) → IsIn ys x → is_under key columns q x ≡ true → find (is_under key columns q) ys ≡ Some x
   sorted_found [] x q sorted there hit = absurd there
-  sorted_found (y ∷ ys) x q sorted (inl same) hit =
-      let here : is_under key columns q y ≡ true = subst (λ (z : X). is_under key columns q z ≡ true) same hit in
-      rw here (ap Some (sym same))
+  sorted_found (y ∷ ys) x q sorted (inl same) hit = rw (← same, hit) refl
   sorted_found (y ∷ ys) x q sorted (inr more) hit =
       let below = below_has (key y) ys x (parts _ _ sorted).0 more in
       let apart : is_under key columns q y ≡ false = (eq_by_cmp_equiv cells_total).symm q (key y) ∙ ap is_eq (alike_right cells_total q (key x) (key y) (tied _ hit) ∙ below) in
@@ -100,11 +83,7 @@ module _ {X : Type 0} (key columns : X → List Cell) where
 
   pub entries_filter : (test : List Cell → Bool) (xs : List X) → where_key cells_cmp test (map entry xs) ≡ map entry (filter (λ x. test (key x)) xs)
   entries_filter test [] = refl
-  entries_filter test (x ∷ xs) =
-      elim (test (key x)) as (λ b. cond b (entry x ∷ where_key cells_cmp test (map entry xs)) (where_key cells_cmp test (map entry xs)) ≡ map entry (cond b (x ∷ filter (λ z. test (key z)) xs) (filter (λ z. test (key z)) xs))) [
-        | true ↦ ap (λ es. entry x ∷ es) (entries_filter test xs)
-        | false ↦ entries_filter test xs
-      ]
+  entries_filter test (x ∷ xs) = let rest = entries_filter test xs in grind (arith, rest)
 
   -- a list in key order finds what any other order of it finds
   find_sorted : (zs ys : List X) → IsPermutation zs ys → T (is_sorted cells_cmp (map entry ys)) → (q : List Cell) → finite.find cells_cmp q (map entry ys) ≡ finite.find cells_cmp q (map entry zs)
@@ -115,6 +94,10 @@ module _ {X : Type 0} (key columns : X → List Cell) where
       go (Some x) is =
           let found = found_has (is_under key columns q) zs x is in
           sorted_found ys x q sorted (permuted ys zs (IsPermutation-sym zs ys same) x found.0) found.1 ∙ sym is
+
+  chosen : (b : Bool) (o : Option (List Cell)) (cells : List Cell) → cond b o None ≡ Some cells
+      → (b ≡ true) × (o ≡ Some cells)
+  chosen b o cells h = grind arith
 
   -- what is in a list of the entries that pass a test stands in the map, under its key
   pub stands : (test : List Cell → Bool) (rows : TableRows) (xs : List X)
@@ -132,11 +115,6 @@ module _ {X : Type 0} (key columns : X → List Cell) where
       chosen (test q) (get rows q) (columns x) (ap (λ o. cond (test q) o None) (get-entries rows q)
       ∙ sym (find-where_key cells_cmp test q alike (entries rows))
       ∙ ap (finite.find cells_cmp q) (sym is) ∙ found)
-    where
-      chosen : (b : Bool) (o : Option (List Cell)) (cells : List Cell) → cond b o None ≡ Some cells
-          → (b ≡ true) × (o ≡ Some cells)
-      chosen true o cells h = (refl, h)
-      chosen false o cells h = absurd cc
 
 -- The rows of a list that pass a test of their keys, seen by what a query shows of each, and put in the order of their keys.
 module _ {X Y : Type 0} (key columns : X → List Cell) (view : X → Y) (key_shown columns_shown : Y → List Cell) (keys : (x : X) → key_shown (view x) ≡ key x) (others : (x : X) → columns_shown (view x) ≡ columns x) where
@@ -159,15 +137,10 @@ module _ {X Y : Type 0} (key columns : X → List Cell) (view : X → Y) (key_sh
 -- ---- from what ORDER BY gives to keys that strictly rise
 
 rises : (r s : Ordering) → r ≡ ordering_reverse s → is_lt s ≡ false → is_eq r ≡ false → T (is_lt r)
-rises Less s is h k = tt
-rises Equal s is h k = absurd (true≢false k)
-rises Greater Less is h k = absurd (true≢false h)
-rises Greater Equal is h k = absurd (true≢false (ap is_gt is))
-rises Greater Greater is h k = absurd (true≢false (ap is_gt is))
+rises r s is h k = grind arith
 
 pub both : (a b : Bool) → T a → T b → T (a && b)
-both true b p q = q
-both false b p q = absurd p
+both a b p q = grind arith
 
 module _ {X : Type 0} (key columns : X → List Cell) where
   below_chain : (j k : List Cell) (ys : List X) → cells_cmp j k ≡ Less → T (below_all cells_cmp k (map (entry key columns) ys)) → T (below_all cells_cmp j (map (entry key columns) ys))

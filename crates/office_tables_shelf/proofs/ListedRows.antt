@@ -1,8 +1,8 @@
 -- Rows that were listed: none of them is damaged.
-use Rattle.std.proofs.Common.{◌≡◌, ℕ, cond, List, map, find, Option, Some, None, option_map, refl, ap, sym, ◌∙◌}
+use Rattle.std.proofs.Common.{◌≡◌, ℕ, cond, List, map, find, Option, Some, None, ap, sym, ◌∙◌}
 use Rattle.std.proofs.lemmas.List.Elements.{All-from_recursion}
 use Rattle.std.specs.{FinMap.entries, FinMap.get-entries, FinMap.Entries.find-where_key, FinMap.Entries.where_key, List.AllByRecursion}
-use Rattle.office_tables_shelf.proofs.CellLemmas.{cells_exact, find_entry, is_under, tied}
+use Rattle.office_tables_shelf.proofs.CellLemmas.{cells_exact, find_entry, held, is_under, tied}
 use Rattle.office_tables_shelf.proofs.ListLemmas.{all_in, entry, found_has, where_all}
 use Rattle.office_tables_shelf.specs.{Cells.Cell, Cells.cells_cmp, Content.Content, Content.rows_at, Damage.HasAnyDamagedIntersection, Rows.intersection_columns, Rows.intersection_key, Reads.is_among, Reads.HasDamagedRow, CabinetReads.IsOfOne, Rows.IsIntersectionRow, Shelf.ListsIntersections, declared.rows.Table.Table, declared.rows.IntersectionRow.IntersectionRow}
 use Rattle.std.specs.FinMap as finite
@@ -14,17 +14,10 @@ module _ {X : Type 0} (t : Table) (Within : X → Type 0) (key columns : X → L
       → finite.find cells_cmp q (map (entry key columns) xs) ≡ Some cells
       → (x : X) × Within x × (q ≡ key x) × (cells ≡ columns x)
   found_row xs q cells each is =
-      go (find (is_under key columns q) xs) refl (sym (find_entry key columns xs q) ∙ is)
-    where
-      go : (o : Option X) → find (is_under key columns q) xs ≡ o
-          → option_map columns o ≡ Some cells
-          → (x : X) × Within x × (q ≡ key x) × (cells ≡ columns x)
-      go None at e = absurd cc
-      go (Some x) at e =
-          let there = found_has (is_under key columns q) xs x at in
-          let whole = all_in Within xs x (All-from_recursion Within xs each) there.0 in
-          let same : columns x ≡ cells = cc in
-          (x, whole, cells_exact q (key x) (tied _ there.1), sym same)
+      let row = held columns (find (is_under key columns q) xs) cells (sym is ∙ find_entry key columns xs q) in
+      let there = found_has (is_under key columns q) xs row.0 row.1 in
+      let whole = all_in Within xs row.0 (All-from_recursion Within xs each) there.0 in
+      (row.0, whole, cells_exact q (key row.0) (tied _ there.1), row.2)
 
   -- none of the rows of an intersection, or of all, is damaged, where those that were listed are
   -- all within their limits

@@ -1,15 +1,12 @@
 -- What a map by the numbers of intersections has at a number.
-use Rattle.std.proofs.Common.{◌≡◌, ℕ, ◌==◌, Bool, true, false, cond, List, Option, nat_cmp, refl, sym, ap, ◌∙◌, arith}
+use Rattle.std.proofs.Common.{◌≡◌, ℕ, ◌==◌, Bool, cond, List, Option, sym, ap, ◌∙◌, arith}
 use Rattle.std.proofs.lemmas.{Bool.Decides.nat_tests}
-use Rattle.std.specs.{BTreeMap.is_at, Map.lookup, Ordering.is_eq}
-use Rattle.office_tables_shelf.proofs.TreeLemmas.{ranged_cmp, then_last}
-
-plain_test : (n m : ℕ) → is_eq (nat_cmp n m) ≡ (m == n)
-plain_test n m = grind (arith, nat_tests)
+use Rattle.std.specs.{BTreeMap.is_at, Map.lookup}
+use Rattle.office_tables_shelf.proofs.TreeLemmas.{ranged_cmp}
 
 -- a key of the map is the number, or is not
 pub number_test : (n m : ℕ) → is_at (ranged_cmp n) m ≡ (m == n)
-number_test n m = ap is_eq (then_last (nat_cmp n m)) ∙ plain_test n m
+number_test n m = grind (arith, nat_tests)
 
 pub at_number : {X : Type 0} (es : List (ℕ × X)) (n : ℕ)
     → lookup (is_at (ranged_cmp n)) es ≡ lookup (λ m. m == n) es
@@ -17,8 +14,7 @@ at_number es n = λ i. lookup (λ m. number_test n m i) es
 
 through : {X Y : Type 0} (show : X → Y) (b : Bool) (x y : X)
     → show (cond b x y) ≡ cond b (show x) (show y)
-through show true x y = refl
-through show false x y = refl
+through show b x y = grind arith
 
 -- one that was put at a number, or taken from it, leaves what is shown of the others
 pub shown_change : {X Y : Type 0} (show : Option X → Y) (es fs : List (ℕ × X)) (id : ℕ)
@@ -33,5 +29,4 @@ shown_change show es fs id next updates n =
 -- what is put where something was taken stands in its place
 pub in_its_place : {Y : Type 0} (b : Bool) (y none old : Y)
     → cond b y (cond b none old) ≡ cond b y old
-in_its_place true y none old = refl
-in_its_place false y none old = refl
+in_its_place b y none old = grind arith

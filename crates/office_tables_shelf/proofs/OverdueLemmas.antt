@@ -1,5 +1,5 @@
 -- How the list of overdue intersections grows row by row, until enough are found or all were seen.
-use Rattle.std.proofs.Common.{◌≡◌, ◌<◌, ◌≤◌, ◌+◌, ◌++◌, ℕ, List, [], ◌∷◌, map, length, get_or, take, drop, Option, Some, None, ap, sym, ◌∙◌, arith, length-append}
+use Rattle.std.proofs.Common.{◌≡◌, ◌<◌, ◌≤◌, ◌+◌, ◌++◌, ℕ, List, [], ◌∷◌, map, length, get_or, take, drop, Option, ap, sym, ◌∙◌, arith, length-append}
 use Rattle.std.proofs.{Math.Seq.take-append_seam, lemmas.List.take_more, lemmas.List.take_all, lemmas.List.take-append-drop, lemmas.List.length-map, lemmas.List.Elements.filter_map-append}
 use Rattle.std.specs.{List.cons_option}
 use Rattle.cabinet_core.specs.Overdue.{Listed, listed_of, lateness, overdue_list}
@@ -8,8 +8,7 @@ use Rattle.cabinet_core.specs.{declared.overdue_inspections.OverdueRow.OverdueRo
 -- ---- the list so far
 
 so_many : (late : Option Listed) → length (cons_option late []) ≤ 1
-so_many None = omega arith
-so_many (Some one) = omega arith
+so_many late = grind arith
 
 -- the row of the next intersection comes last
 pub overdue_more : (day : ℕ) (seen : List Seen) (i : ℕ) (next : Seen) (old new : List OverdueRow) → i < length seen → next ≡ get_or seen i next → map listed_of old ≡ overdue_list day (take i seen)

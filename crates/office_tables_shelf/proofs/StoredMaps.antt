@@ -1,8 +1,9 @@
 -- A finite map, stored as the rows of a table: what the rows have at a key, what an insertion makes of them, and that they are the map's entries.
-use Rattle.std.proofs.Common.{◌≡◌, ◌⊎◌, inl, inr, List, [], ◌∷◌, map, length, Option, Some, None, cond, T, Ordering, refl, ap, sym, subst, ◌∙◌, arith}
+use Rattle.std.proofs.Common.{◌≡◌, inl, inr, List, [], ◌∷◌, map, Some, None, cond, T, Ordering, refl, ap, sym, subst, ◌∙◌}
+use Rattle.std.proofs.lemmas.List.{nil_from_length}
 use Rattle.std.specs.{Cmp.IsTotalOrder, Cmp.eq_by_cmp_equiv, FinMap.FinMap, FinMap.entries, FinMap.entries_sorted, FinMap.get, FinMap.insert, FinMap.get-entries, FinMap.get-insert, FinMap.Entries.is_sorted, FinMap.Entries.below_all, Option.option_map, Ordering.is_eq, Ordering.is_lt, Ordering.eq_by_cmp}
 use Rattle.office_tables_shelf.specs.Cells.{Cell, tree_rows, cells_cmp}
-use Rattle.office_tables_shelf.proofs.CellLemmas.{first_under, get_by}
+use Rattle.office_tables_shelf.proofs.CellLemmas.{held, get_by}
 use Rattle.office_tables_shelf.proofs.ListLemmas.{both, parts, entries_in_order, cells_of}
 use Rattle.office_tables_shelf.proofs.TreeLemmas.{entry_at, get_tree, insert_tree, some_key, key_in, columns_in}
 use Rattle.std.specs.FinMap as finite
@@ -30,15 +31,12 @@ module _ {K X : Type 0} {R : K → K → Ordering} (total : IsTotalOrder R) (key
 
   -- what stands in the table are the cells of a record under its key
   pub stored_found : (m : FinMap R X) (q cells : List Cell) → get (tree_rows key columns (entries m)) q ≡ Some cells → (k : K) × (x : X) × (q ≡ key k) × (cells ≡ columns x) × (get m k ≡ Some x)
-  stored_found m q cells at = go (some_key R key columns ties (entries m) q)
-    where
-      held : (k : K) (there : Option X) → get m k ≡ there → q ≡ key k → Some cells ≡ option_map columns there → (k : K) × (x : X) × (q ≡ key k) × (cells ≡ columns x) × (get m k ≡ Some x)
-      held k None is here same = absurd cc
-      held k (Some x) is here same = (k, x, here, let e : cells ≡ columns x = cc in e, is)
-
-      go : ((k : K) × (q ≡ key k)) ⊎ (first_under (key_in R key columns) (columns_in R key columns) (entries m) q ≡ None) → (k : K) × (x : X) × (q ≡ key k) × (cells ≡ columns x) × (get m k ≡ Some x)
-      go (inl found) = held found.0 (get m found.0) refl found.1 (sym at ∙ ap (get (tree_rows key columns (entries m))) found.1 ∙ get_stored m found.0)
-      go (inr none) = absurd (let f : Some cells ≡ None = sym at ∙ get_by (key_in R key columns) (columns_in R key columns) (entries m) q ∙ none in cc)
+  stored_found m q cells at = elim (some_key R key columns ties (entries m) q) [
+    | inl found ↦
+        let there = held columns (get m found.0) cells (sym at ∙ ap (get (tree_rows key columns (entries m))) found.1 ∙ get_stored m found.0) in
+        (found.0, there.0, found.1, there.2, there.1)
+    | inr none ↦ absurd (let f : Some cells ≡ None = sym at ∙ get_by (key_in R key columns) (columns_in R key columns) (entries m) q ∙ none in cc)
+  ]
 
   below_cells : (k : K) (es : List (K × X)) → T (below_all R k es) → T (below_all cells_cmp (key k) (map (cells_of key columns) es))
   below_cells k [] h = tt
@@ -54,8 +52,4 @@ module _ {K X : Type 0} {R : K → K → Ordering} (total : IsTotalOrder R) (key
 
 -- a map without entries is a table without rows
 pub no_rows : {K X : Type 0} (R : K → K → Ordering) (key : K → List Cell) (columns : X → List Cell) → tree_rows key columns (entries (finite.empty {X = X} {R = R})) ≡ finite.empty
-no_rows {K} {X} R key columns = ap (λ (es : List (K × X)). tree_rows key columns es) (none (entries (finite.empty {X = X} {R = R})) (sym (finite.len-entries (finite.empty {X = X} {R = R})) ∙ finite.len-empty R X))
-  where
-    none : (es : List (K × X)) → length es ≡ 0 → es ≡ []
-    none [] is = refl
-    none (e ∷ es) is = absurd (omega arith)
+no_rows {K} {X} R key columns = ap (λ (es : List (K × X)). tree_rows key columns es) (nil_from_length (entries (finite.empty {X = X} {R = R})) (sym (finite.len-entries (finite.empty {X = X} {R = R})) ∙ finite.len-empty R X))

@@ -1,7 +1,7 @@
 -- A tree of records stands for the map of their cells, and follows its changes.
-use Rattle.std.proofs.Common.{◌≡◌, ◌⊎◌, inl, inr, ℕ, true, false, List, [], ◌∷◌, find, cond, Option, None, Some, option_map, Ordering, nat_cmp, pos, refl, sym, ap, subst, ◌∙◌, arith}
-use Rattle.std.proofs.{lemmas.Bool.cases_Bool, lemmas.Bool.Decides.nat_tests}
-use Rattle.std.specs.{BTreeMap.is_at, Cmp.eq_by_cmp_equiv, Cmp.nat_cmp_total, Cmp.tied_itself, FinMap.insert, FinMap.remove, FinMap.get, FinMap.same_map, FinMap.get-insert, FinMap.get-remove, Map.lookup, Ordering.is_eq, Ordering.eq_by_cmp, Ordering.int_cmp, Ordering.ordering_then, declared.cmp.Ordering.TheVariants.Less, declared.cmp.Ordering.TheVariants.Equal, declared.cmp.Ordering.TheVariants.Greater}
+use Rattle.std.proofs.Common.{◌≡◌, ◌⊎◌, inr, ℕ, true, List, [], ◌∷◌, find, cond, Option, None, Some, option_map, Ordering, nat_cmp, pos, refl, sym, ap, subst, ◌∙◌, arith}
+use Rattle.std.proofs.{lemmas.Bool.Decides.nat_tests}
+use Rattle.std.specs.{BTreeMap.is_at, Cmp.eq_by_cmp_equiv, Cmp.nat_cmp_total, Cmp.tied_itself, FinMap.insert, FinMap.remove, FinMap.get, FinMap.same_map, FinMap.get-insert, FinMap.get-remove, Map.lookup, Ordering.is_eq, Ordering.eq_by_cmp, Ordering.ordering_then, declared.cmp.Ordering.TheVariants.Equal}
 use Rattle.signal_records.specs.{Key.kind_of, Key.first_of, Key.second_of, Key.key_cmp, declared.key.Key.Key}
 use Rattle.office_tables_shelf.specs.{Rows.timing_key, Cells.Cell, Cells.number, Cells.tree_rows, Cells.cell_cmp, Cells.cells_cmp}
 use Rattle.office_tables_shelf.proofs.CellLemmas.{cells_total, cells_exact, is_under, first_under, get_by, mapped, tied}
@@ -32,10 +32,10 @@ module _ {K X : Type 0} (R : K → K → Ordering) (key : K → List Cell) (colu
     -- the cells are those of a key, or nothing stands under them
     pub some_key : (es : List (K × X)) (q : List Cell) → ((k : K) × (q ≡ key k)) ⊎ (first_under key_in columns_in es q ≡ None)
     some_key [] q = inr refl
-    some_key (e ∷ es) q = elim (cases_Bool (is_under key_in columns_in q e)) [
-      | inl hit ↦ inl (e.0, cells_exact q (key e.0) (tied _ hit))
-      | inr miss ↦ elim (some_key es q) [ inl found ↦ inl found | inr none ↦ inr (rw (miss, none)) ]
-    ]
+    some_key (e ∷ es) q =
+        let exact = cells_exact q (key e.0) in
+        let rest = some_key es q in
+        grind (arith, tied, exact, rest)
 
     -- trees that differ at one key
     module _ (es fs : List (K × X)) (k : K) (next : Option X) (updates : (q : K) → entry_at fs q ≡ cond (is_at (R k) q) next (entry_at es q)) where
@@ -48,17 +48,12 @@ module _ {K X : Type 0} (R : K → K → Ordering) (key : K → List Cell) (colu
           ∙ (λ i. cond ((sym (ties k q) ∙ (eq_by_cmp_equiv cells_total).symm (key k) (key q)) i) (option_map columns next) (sym (under_key es q) i))
 
       pub follows : (q : List Cell) → Follows q
-      follows q = go (some_key fs q) (some_key es q) (cases_Bool (is_eq (cells_cmp q (key k))))
-        where
-          at : (found : (x : K) × (q ≡ key x)) → Follows q
-          at found = subst Follows (sym found.1) (at_key found.0)
-
-          go : ((x : K) × (q ≡ key x)) ⊎ (first_under key_in columns_in fs q ≡ None) → ((x : K) × (q ≡ key x)) ⊎ (first_under key_in columns_in es q ≡ None)
-              → (is_eq (cells_cmp q (key k)) ≡ true) ⊎ (is_eq (cells_cmp q (key k)) ≡ false) → Follows q
-          go (inl found) old b = at found
-          go (inr none) (inl found) b = at found
-          go (inr none) (inr before) (inl hit) = at (k, cells_exact q (key k) (tied _ hit))
-          go (inr none) (inr before) (inr miss) = rw (none, before, miss)
+      follows q =
+          let at = λ (x : K) (is : q ≡ key x). subst Follows (sym is) (at_key x) in
+          let hit = λ (tie : is_eq (cells_cmp q (key k)) ≡ true). at k (cells_exact q (key k) (tied _ tie)) in
+          let now = some_key fs q in
+          let old = some_key es q in
+          grind (arith, at, hit, now, old)
 
     pub insert_tree : (es fs : List (K × X)) (k : K) (v : X) → ((q : K) → entry_at fs q ≡ cond (is_at (R k) q) (Some v) (entry_at es q)) → tree_rows key columns fs ≡ insert (tree_rows key columns es) (key k) (columns v)
     insert_tree es fs k v updates = same_map cells_total cells_exact _ _ (λ q.
@@ -77,22 +72,14 @@ abbrev pub ranged_cmp : ℕ → ℕ → Ordering
 ranged_cmp a b = ordering_then (nat_cmp a b) Equal
 
 pub then_last : (o : Ordering) → ordering_then o Equal ≡ o
-then_last Less = refl
-then_last Equal = refl
-then_last Greater = refl
+then_last o = grind arith
 
 -- ---- keys of timing and draft rows
-
-whole_order : (a b : ℕ) → int_cmp (pos a) (pos b) ≡ nat_cmp a b
-whole_order a b = grind (arith, nat_tests)
 
 -- whole numbers of cells compare as numbers
 pub number_order : (a b : ℕ) → cell_cmp (number (pos a)) (number (pos b)) ≡ nat_cmp a b
 unfolding cell_cmp
-number_order a b = then_last (int_cmp (pos a) (pos b)) ∙ whole_order a b
-
-alone : (r s : Ordering) → r ≡ s → ordering_then r Equal ≡ s
-alone r s p = then_last r ∙ p
+number_order a b = grind (arith, nat_tests)
 
 -- the cells of the keys of an intersection have the order of the keys
 pub timing_order : (id : ℕ) (a b : Key) → cells_cmp (timing_key id a) (timing_key id b) ≡ key_cmp a b
@@ -100,7 +87,7 @@ timing_order id a b =
     (λ i. ordering_then ((number_order id id ∙ tied_itself nat_cmp_total id) i)
     (ordering_then (number_order (kind_of a) (kind_of b) i)
     (ordering_then (number_order (first_of a) (first_of b) i)
-    (alone _ _ (number_order (second_of a) (second_of b)) i))))
+    ((then_last _ ∙ number_order (second_of a) (second_of b)) i))))
 
 pub timing_ties : (id : ℕ) (a b : Key) → is_eq (cells_cmp (timing_key id a) (timing_key id b)) ≡ eq_by_cmp key_cmp a b
 timing_ties id a b = ap is_eq (timing_order id a b)
