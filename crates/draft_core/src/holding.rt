@@ -10,7 +10,8 @@ use crate::refusal::DraftRefusal;
 use crate::state::{DbState, Holder, Holding, Stage};
 use signal_records::{NoMemory, Words};
 
-/// The test of a command that only the owner may give, in one stage. It is refused with `wrong` where
+/// The test of a command that only the owner may give, in one stage. It is refused with `wrong`
+/// where
 /// there is no draft or one in another stage, then with `NotOwner` where another clerk holds it.
 pub(crate) fn test_owner(
     holder: &Option<Holder>,

@@ -182,7 +182,8 @@ impl<S: Shelf> Office<S> {
             .map_err(shelf_refusal)
     }
 
-    /// All intersections, in ascending order of their numbers, one for each row of their table, even
+    /// All intersections, in ascending order of their numbers, one for each row of their table,
+    /// even
     /// where the tables stand for no office. The rows of a committed timing set are counted, not
     /// read.
     pub fn intersections(&mut self, alloc: Global) -> Result<Vec<ListedIntersection>, Refusal>

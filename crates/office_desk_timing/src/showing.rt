@@ -143,7 +143,8 @@ pub fn decide_timing<S: Shelf>(
     Ok(Decided::from_reply(alloc, Reply::Timing(timing)))
 }
 
-/// Decides the query Draft, which shows who holds the draft, its rows and the rules that they break;
+/// Decides the query Draft, which shows who holds the draft, its rows and the rules that they
+/// break;
 /// `UnknownIntersection` where the intersection is not there, and `NotTransaction` where nobody
 /// holds a draft of it.
 pub fn decide_draft<S: Shelf>(

@@ -51,7 +51,8 @@ fn read(alloc: Global, table: Spelled, row: &SqlRow) -> Result<(InterId, Change)
     ensures shown { IfOk result (λ kept. stored_for kept_key former_columns kept
         ≡ row_shown (spelled_table table) row.now) }
     ensures former { IfOk result (IsFormer table) }
-    ensures damaged { result ≡ Err ShelfFault.Damaged → length row.now ≡ width_of (spelled_table table) →
+    ensures damaged { result ≡ Err ShelfFault.Damaged → length row.now ≡ width_of (spelled_table
+        table) →
         IsNoRow (IsFormer table) kept_key former_columns
         (key_shown (spelled_table table) row.now) (columns_shown (spelled_table table) row.now) }
 {
@@ -67,8 +68,8 @@ fn read(alloc: Global, table: Spelled, row: &SqlRow) -> Result<(InterId, Change)
     Ok((id, Change::Put(found)))
 }
 
-/// Appends the change that puts a row that version 1 kept in a table there again, if it is that of a
-/// phase with a pedestrian part: no other row is spelled otherwise today than in version 1.
+/// Appends the change that puts a row that version 1 kept in a table there again, if it is that of
+/// a phase with a pedestrian part: no other row is spelled otherwise today than in version 1.
 fn put_again(
     table: Spelled,
     id: InterId,
@@ -109,8 +110,8 @@ fn put_rows(
 }
 
 /// Appends the changes that put those rows of a table of version 1 again that have a pedestrian
-/// part, in the order of their keys; `sql` is the query of that table. `Damaged` means that a row is
-/// none of version 1, `Store` that the database refused, `NoMemory` that a growth was refused.
+/// part, in the order of their keys; `sql` is the query of that table. `Damaged` means that a row
+/// is none of version 1, `Store` that the database refused, `NoMemory` that a growth was refused.
 pub(crate) fn put_former<S: Alter>(
     alloc: Global,
     conn: &mut Connection<S>,

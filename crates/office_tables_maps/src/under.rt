@@ -31,10 +31,15 @@ pub(crate) fn list_under<K: Ends, T: Kept<Place = (InterId, K)>>(
     inter: InterId,
 ) -> Result<Vec<T>, NoMemory>
     requires { (k : ℕ × K) (x : T) → T.stored.own k x ≡ T.stored.own (k.0, K.keys.first) x }
-    ensures rows { IfOk result (λ list. ArePlaced (under_intersection K.keys) T.stored rows.now.entries →
-        map (λ x. ((under_intersection K.keys).cells (T.stored.own (inter, K.keys.first) x), T.stored.columns x)) list.items
+    ensures rows { IfOk result (λ list. ArePlaced (under_intersection K.keys) T.stored
+        rows.now.entries →
+        map (λ x. (
+          (under_intersection K.keys).cells (T.stored.own (inter, K.keys.first) x),
+          T.stored.columns x,
+        )) list.items
         ≡ rows_of inter (stored_rows (under_intersection K.keys) T.stored rows.now.entries)) }
-    ensures within { IfOk result (λ list. ArePlaced (under_intersection K.keys) T.stored rows.now.entries →
+    ensures within { IfOk result (λ list. ArePlaced (under_intersection K.keys) T.stored
+        rows.now.entries →
         AllByRecursion T.stored.is_within list.items) }
 {
     let mut list = Vec::new(alloc);
@@ -51,7 +56,8 @@ pub(crate) fn count_under<K: Ends, T: Kept<Place = (InterId, K)>>(
 ) -> usize
     requires { (k : ℕ × K) (x : T) → T.stored.own k x ≡ T.stored.own (k.0, K.keys.first) x }
     ensures { ArePlaced (under_intersection K.keys) T.stored rows.now.entries →
-        result ≡ length (rows_of inter (stored_rows (under_intersection K.keys) T.stored rows.now.entries)) }
+        result ≡ length (rows_of inter (stored_rows (under_intersection K.keys) T.stored
+        rows.now.entries)) }
 {
     rows.range(all_of(inter)).count()
 }

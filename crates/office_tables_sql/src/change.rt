@@ -115,7 +115,8 @@ pub fn apply<S: Alter>(
     ensures unchanged { IsHonest (state S.Store conn.new) →
         OnErr result (content_now (state S.Store conn.new) ≡ content_now (state S.Store conn.old)) }
     ensures version { IsHonest (state S.Store conn.new) →
-        version_in (state S.Store conn.new).now.trees ≡ version_in (state S.Store conn.old).now.trees }
+        version_in (state S.Store conn.new).now.trees ≡ version_in (state S.Store
+        conn.old).now.trees }
     ensures open { HasCleanDisk (state S.Store conn.new) → OnOk result (changes.now ≢ [] →
         IsHonest (state S.Store conn.new)) }
     ensures crash { Survives (state S.Store conn.old) (state S.Store conn.new) (λ trees.
